@@ -1,5 +1,5 @@
 -- What the turn of a CREATE comes to: its answer, what accounts for it, and what it leaves.
-use Rattle.std.proofs.Common.{◌≡◌, ℕ, ◌+◌, ◌<◌, ◌^◌, List, Option, None, Some, Result, Ok, Err, IfErr, IfOk, IfSome, length, refl, ap, ◌∙◌, subst, arith}
+use Rattle.std.proofs.Common.{◌≡◌, ℕ, ◌+◌, ◌<◌, ◌^◌, List, Option, None, Some, Result, Ok, Err, IfErr, IfOk, IfSome, OnErr, length, refl, ap, ◌∙◌, subst, arith}
 use Rattle.std.proofs.lemmas.Result.{IfErr-weaker}
 use Rattle.mt_base.specs.declared.memory.NoMemory.{NoMemory}
 use Rattle.mt_values.specs.Annals.{Told}
@@ -13,6 +13,10 @@ use Rattle.replies.specs.mt_model.Reply.{create_turn, ok_line, schema_of_text}
 use Rattle.replies.specs.mt_model.Written.{IsCreateText}
 use Rattle.replies.specs.Foreseen.{history}
 use Rattle.replies.proofs.Causing.{says_answer}
+use Rattle.shared_store.specs.part_reader.declared.reading.Part.{Part}
+use Rattle.shared_store.specs.part_set.declared.set.PartSet.{PartSet}
+use Rattle.shared_store.specs.part_set.Parts.{kept_in}
+use Rattle.shared_store.specs.part_set.Sets.{parts_of}
 use Rattle.shared_store.specs.durable_commit.declared.causes.Refused.TheVariants as refused
 use Rattle.shared_store.specs.durable_commit.Commits.{IsOutside}
 use Rattle.shared_store.specs.root_commits.declared.commits.Returned.{Returned}
@@ -28,7 +32,8 @@ use Rattle.shared_store.proofs.RootCommitsCreateCommits.{create_crashes, create_
 use Rattle.shared_store.proofs.RootCommitsSameStores.{stands_same}
 use Rattle.shared_store.proofs.RootCommitsTurning.{AfterRefusal, after_refusal}
 use Rattle.session.specs.Answers.{Answered, Answers, Knows, met}
-use Rattle.session.specs.Lapses.{Accounts, AcceptsNothing, Leaves, Never, counts, lapse}
+use Rattle.session.specs.Lapses.{Accounts, AcceptsNothing, KeepsRoot, Leaves, Never, counts, lapse}
+use Rattle.session.specs.Merges.{KeepsParts}
 use Rattle.session.specs.Staged.{entry_files}
 use Rattle.session.specs.Stops.{IsLineOf}
 use Rattle.session.proofs.Accepting.{answered_nothing, answers_line}
@@ -64,6 +69,11 @@ module _ {F S : Type 0} (files_of : F → Option Files) (text : CreateText) (sch
     crashes = λ k first start keeps. create_crashes files_of 0 create entry (root_in was) (root_in now) sealed result d (is k) first start keeps;
     held = λ _ held. create_held files_of 0 create entry (root_in was) (root_in now) sealed result d held;
   }
+
+  -- no part changed
+  pub create_parts : (result : Result ℕ (Returned S)) → Does result → KeepsParts was.store now.store
+  create_parts (Ok x) d table partition = ap (λ (set : PartSet (Part F)). kept_in partition (parts_of set table)) d.enters.set_is
+  create_parts (Err r) d table partition = ap (kept_in partition) (d.enters.parts table)
 
   -- ---- the table was made
 
@@ -117,6 +127,14 @@ module _ {F S : Type 0} (files_of : F → Option Files) (text : CreateText) (sch
         (λ reply is bad. never_by reply (commit_line 0 text.table r.cause reply is) bad)
         (IfErr-weaker line _ _ (λ e no. (left_by.calm none no, same)) other)
         (omega (arith, same))
+
+    -- memory ran out
+    pub create_memory : OnErr line (KeepsRoot was now)
+    create_memory = by line other
+      where
+        by : (l : Result (List ℕ) NoMemory) → IfErr l (λ _. r.cause ≡ refused.Disk → ⊥) → OnErr l (KeepsRoot was now)
+        by (Ok reply) no = tt
+        by (Err e) no = let left = after r d in record { store_is = d.enters; disk_is = left.unchanged no; mark_is = left.mark }
 
     -- what comes back had no fault
     pub create_returned : entry.failed ≡ 0 → (entry_of : S → ℕ) → entry_of sealed ≡ entry.failed → IfSome r.back (λ s. entry_of s ≡ 0)

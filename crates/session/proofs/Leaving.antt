@@ -10,7 +10,7 @@ use Rattle.replies.specs.Causes.{HasCauses}
 use Rattle.shared_store.specs.durable_commit.Publications.{Storage}
 use Rattle.shared_store.specs.Engines.{GoesOn, Opened}
 use Rattle.shared_store.proofs.Levels.{parts_stay, parts_then}
-use Rattle.session.specs.Lapses.{Accounts, AcceptsNothing, Counts, KeepsOpen, Leaves, Never, NoneFailedIn, counts, lapse, still}
+use Rattle.session.specs.Lapses.{Accounts, AcceptsNothing, Counts, KeepsOpen, KeepsRoot, Leaves, Never, NoneFailedIn, counts, lapse, still}
 
 -- ---- what stays
 
@@ -18,6 +18,9 @@ module _ {F : Type 0} where
   -- what was not touched
   pub nothing_accepted : (here : Opened F) → AcceptsNothing here here
   nothing_accepted here = record { store_is = record { tables = refl; parts = λ table. refl; mutations_are = refl; length_is = refl; opened_is = refl }; storage_is = refl }
+
+  pub root_stays : (here : Opened F) → KeepsRoot here here
+  root_stays here = record { store_is = (nothing_accepted here).store_is; disk_is = refl; mark_is = refl }
 
   pub keeps_itself : (here : Opened F) → KeepsOpen here here
   keeps_itself here = record { ready = λ ready. ready; opened = refl; policy = refl; started = refl; later = omega arith }

@@ -1,4 +1,5 @@
 pub mod Accepting
+pub mod Adding
 pub mod Asking
 pub mod Beside
 pub mod CreateTurns

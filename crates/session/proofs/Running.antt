@@ -21,7 +21,8 @@ use Rattle.shared_store.specs.Engines.{Opened, schema_kept}
 use Rattle.session.specs.declared.sealing.SealedBlock.{SealedBlock}
 use Rattle.session.specs.Answers.{Answered, EndsUnanswered, Knows, met}
 use Rattle.session.specs.Lapses.{Accounts, Leaves, Never, counts, lapse}
-use Rattle.session.specs.Turns.{AcceptsInTurn, ArePartsAt, EndsInTurn, InTurn, IsPartAt, IsPartFor, RefusesInTurn, commands_in_turn, in_turn, part_command}
+use Rattle.session.specs.Turns.{AcceptsInTurn, AddsParts, ArePartsAt, EndsInTurn, InTurn, IsPartAt, IsPartFor, RefusesInTurn, commands_in_turn, in_turn, part_command}
+use Rattle.session.proofs.Adding.{adds_itself, adds_then}
 use Rattle.session.proofs.Leaving.{accounts_from, leaves_itself, leaves_then, leaves_where, never_by}
 use Rattle.session.proofs.Progressing.{Progress, all_done, known_there, next_ended, next_refused, none_yet, one_more}
 use Rattle.session.proofs.Stacking.{all_after, first_turn}
@@ -48,6 +49,7 @@ pub record Runs {F S : Type 0} (files_of : F → Option Files) (r : Taken F S) :
   pub split : in_turn r.all ≡ done ++ in_turn r.left
   pub count : r.accepted ≡ length done
   pub leaves : Leaves files_of ((schema : Schema) × ArePartsAt r.was.store r.table r.all schema) r.was r.here
+  pub adds : AddsParts r.table r.was.store r.here.store
   pub calm : r.here.storage.failed ≡ r.was.storage.failed
   pub keeps : schema_kept (table_at r.here.store r.table) ≡ schema_kept (table_at r.was.store r.table)
   pub progress : (kept : Told) (schema : Schema) → ArePartsAt r.was.store r.table r.all schema → Knows files_of kept r.was → Progress files_of kept r.was (map (part_command schema r.table) done) r.here
@@ -60,6 +62,7 @@ module _ {F S : Type 0} (files_of : F → Option Files) where
     split = refl;
     count = refl;
     leaves = leaves_itself files_of ((schema : Schema) × ArePartsAt was.store table all schema) was;
+    adds = adds_itself table was.store;
     calm = refl;
     keeps = refl;
     progress = λ kept schema are knows. none_yet files_of kept was knows;
@@ -126,15 +129,16 @@ module _ {F S : Type 0} (files_of : F → Option Files) where
         turn_of schema = record { command = part_command schema r.table s; before = r.accepted }
 
         -- it was accepted
-        pub run_on : Leaves files_of ((schema : Schema) × IsPartAt r.here.store r.table s schema) r.here new → new.storage.failed ≡ r.here.storage.failed
+        pub run_on : Leaves files_of ((schema : Schema) × IsPartAt r.here.store r.table s schema) r.here new → AddsParts r.table r.here.store new.store → new.storage.failed ≡ r.here.storage.failed
             → schema_kept (table_at new.store r.table) ≡ schema_kept (table_at r.here.store r.table)
             → ((kept : Told) (schema : Schema) → Knows files_of kept r.here → IsPartAt r.here.store r.table s schema → AcceptsInTurn files_of kept (turn_of schema) (met r.here new arm))
             → Runs files_of (record { table = r.table; all = r.all; left = rest; was = r.was; here = new; accepted = r.accepted + 1 })
-        run_on leaves calm schema_same answers = record {
+        run_on leaves adds calm schema_same answers = record {
           done = run.done ++ s ∷ [];
           split = next_split ∙ sym (append_assoc run.done (s ∷ []) (in_turn rest));
           count = let count = run.count in omega (arith, count, length-append run.done (s ∷ []));
           leaves = leaves_next new leaves;
+          adds = adds_then r.table r.was.store r.here.store new.store run.adds adds;
           calm = calm ∙ run.calm;
           keeps = schema_same ∙ run.keeps;
           progress = λ kept schema are knows.

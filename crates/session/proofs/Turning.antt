@@ -40,8 +40,9 @@ use Rattle.session.specs.declared.turns.TurnReply.{TurnReply}
 use Rattle.session.specs.Answers.{Knows, Turned, met}
 use Rattle.session.specs.Lapses.{Accounts, AcceptsNothing, Leaves, Never, counts, lapse}
 use Rattle.session.specs.Stops.{IsLineOf}
-use Rattle.session.specs.Turns.{AcceptsInTurn, EndsInTurn, InTurn, IsPartAt, IsPartFor, LeavesInTurn, NoneFailed, RefusesInTurn, TakesTurn, part_command, replied}
+use Rattle.session.specs.Turns.{AcceptsInTurn, AddsParts, EndsInTurn, InTurn, IsPartAt, IsPartFor, LeavesInTurn, NoneFailed, RefusesInTurn, TakesTurn, part_command, replied}
 use Rattle.session.proofs.Accepting.{after_note}
+use Rattle.session.proofs.Adding.{adds_one, adds_same}
 use Rattle.session.proofs.Gaining.{LeavesTold, leaves_told, part_failed, stays_refused, still_added, still_part_refused}
 use Rattle.session.proofs.Inserting.{turn_free}
 use Rattle.session.proofs.Leaving.{accounts_line, keeps_turn, never_by}
@@ -93,6 +94,11 @@ module _ {F S : Type 0} (files_of : F → Option Files) (was now : Opened F) (na
     crashes = λ at first start keeps. part_crashes files_of a (root_in was) (root_in now) (part_at result d at) s.part result d first start keeps;
     held = λ at held. part_held files_of a (root_in was) (root_in now) (part_at result d at) s.part result d held;
   }
+
+  -- one part more where it was accepted, and else none
+  pub part_adds : (result : Result ℕ (Returned (SealedPart S))) → Does result → AddsParts name was.store now.store
+  part_adds (Ok x) d = adds_one name was.store now.store partition d.enters.part t d.enters.enters
+  part_adds (Err r) d = adds_same name was.store now.store d.enters
 
   -- its table stays
   pub part_schema : (result : Result ℕ (Returned (SealedPart S))) → Does result → schema_kept (table_at now.store name) ≡ schema_kept (table_at was.store name)

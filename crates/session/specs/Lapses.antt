@@ -52,6 +52,12 @@ pub record AcceptsNothing {F : Type 0} (was now : Opened F) : Type 0 where
   pub store_is : SameStore was.store now.store
   pub storage_is : now.storage ≡ was.storage
 
+-- the store keeps the same, and what the disk tells and its mark are as they were
+pub record KeepsRoot {F : Type 0} (was now : Opened F) : Type 0 where
+  pub store_is : SameStore was.store now.store
+  pub disk_is : now.storage.disk ≡ was.storage.disk
+  pub mark_is : now.storage.clock ≡ was.storage.clock
+
 -- What a call leaves of the root. One that was stopped before accepts nothing. Where this is known, a crash leaves what was noted, and each part
 -- holds rows where each did.
 pub record Leaves {F : Type 0} (files_of : F → Option Files) (known : Type 0) (was now : Opened F) : Type 0 where

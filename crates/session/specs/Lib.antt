@@ -3,6 +3,7 @@ pub mod Lapses
 pub mod Merges
 pub mod Selects
 pub mod Staged
+pub mod Statements
 pub mod Stops
 pub mod Turns
 pub use Rattle.replies.specs.mt_model

@@ -147,15 +147,6 @@ pub record SelectsFrom {F : Type 0} (files_of : F → Option Files) (store : Cor
   pub takes : Selected kept text arm store.opened reply
   pub plain : ReadsPlain files_of store text reply
 
--- the same where the statement is one (docs/definitions.md, "SELECT")
-abbrev pub SelectsAsAsked : {F : Type 0} → (F → Option Files) → CoreStore F → Told → Item → ℕ → Result (List ℕ) NoMemory → Type 0
-SelectsAsAsked files_of store kept (Ok (statement.Select text)) arm result = IfOk result (SelectsFrom files_of store kept text arm)
-SelectsAsAsked files_of store kept (Ok (statement.Create c)) arm result = Unit {0}
-SelectsAsAsked files_of store kept (Ok (statement.Insert i)) arm result = Unit {0}
-SelectsAsAsked files_of store kept (Ok (statement.Explain s)) arm result = Unit {0}
-SelectsAsAsked files_of store kept (Ok (statement.Optimize o)) arm result = Unit {0}
-SelectsAsAsked files_of store kept (Err why) arm result = Unit {0}
-
 -- The reply to an EXPLAIN has the numbers of the plan of its SELECT over a pinned table, and the length of its history (docs/definitions-of-runs.md,
 -- "Explained reads").
 pub record CountsPlan {F : Type 0} (snap : Snap (Part F)) (text : SelectText) (reply : List ℕ) : Type 0 where

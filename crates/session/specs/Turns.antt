@@ -1,5 +1,5 @@
 -- The turns of an INSERT: one for each partition of its rows, in a turn of its own (docs/definitions-of-runs.md, "Turns").
-use Rattle.std.specs.Prelude.{◌≡◌, ◌⊎◌, ℕ, true, false, List, [], ◌∷◌, ◌++◌, All, map, reverse, Option, Some, Result, Ok, Err}
+use Rattle.std.specs.Prelude.{◌≡◌, ◌≢◌, ◌⊎◌, ◌+◌, ℕ, true, false, List, [], ◌∷◌, ◌++◌, All, length, map, reverse, Option, Some, Result, Ok, Err}
 use Rattle.mt_base.specs.declared.memory.NoMemory.{NoMemory}
 use Rattle.mt_values.specs.declared.command.Command.{Command}
 use Rattle.mt_values.specs.declared.schema.Schema.{Schema}
@@ -10,7 +10,11 @@ use Rattle.replies.specs.mt_model.Outside.{Outside}
 use Rattle.replies.specs.mt_model.Reply.{ok_line}
 use Rattle.replies.specs.mt_model.Session.{RefusedInTurn, TurnAllows}
 use Rattle.shared_store.specs.durable_commit.Commits.{entry_of}
-use Rattle.shared_store.specs.root_commits.Commits.{IsSealedOf, insert_into, insert_of_block, partition_of_block}
+use Rattle.shared_store.specs.part_reader.declared.reading.Part.{Part}
+use Rattle.shared_store.specs.part_set.declared.kept.Kept.{Kept}
+use Rattle.shared_store.specs.part_set.Parts.{IsAdded}
+use Rattle.shared_store.specs.part_set.Sets.{parts_of}
+use Rattle.shared_store.specs.root_commits.Commits.{IsSealedOf, fresh_part, insert_into, insert_of_block, partition_of_block}
 use Rattle.shared_store.specs.root_store.Soundness.{RootStands}
 use Rattle.shared_store.specs.root_store.declared.store.CoreStore.{CoreStore}
 use Rattle.shared_store.specs.root_store.Stores.{CoreStands, table_at}
@@ -57,6 +61,28 @@ pub record IsPartAt {F S : Type 0} (store : CoreStore F) (table : List ℕ) (s :
 pub record ArePartsAt {F S : Type 0} (store : CoreStore F) (table : List ℕ) (parts : List (SealedBlock S)) (schema : Schema) : Type 0 where
   pub has : schema_kept (table_at store table) ≡ Some schema
   pub are : All (IsPartFor schema) (in_turn parts)
+
+-- ---- the parts that are added
+
+-- parts were added to a list, one after another
+abbrev pub AddsEach : {P : Type 0} → List (Kept P) → List (Kept P) → List (Kept P) → Type 0
+AddsEach [] before after = after ≡ before
+AddsEach {P} (k ∷ added) before after = (mid : List (Kept P)) × IsAdded before k mid × AddsEach added mid after
+
+-- a part as a command makes it, under a number of its own; it bears no mark (docs/formats.md, "Names of parts")
+pub record IsFresh {P : Type 0} (k : Kept P) : Type 0 where
+  pub number : ℕ
+  pub name_is : k.name ≡ fresh_part k.name.partition number
+  pub idle : k.busy ≡ false
+
+-- What an INSERT does to the parts that a store keeps, whatever it comes to: its table has one more for each command that was accepted, and no other part
+-- has changed, or is gone (docs/definitions-of-runs.md, "Turns").
+pub record AddsParts {F : Type 0} (table : List ℕ) (was now : CoreStore F) : Type 0 where
+  pub added : List (Kept (Part F))
+  pub adds : AddsEach added (parts_of was.set table) (parts_of now.set table)
+  pub fresh : All IsFresh added
+  pub count : now.length ≡ was.length + length added
+  pub others : (u : List ℕ) → u ≢ table → parts_of now.set u ≡ parts_of was.set u
 
 -- ---- one turn
 

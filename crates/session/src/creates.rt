@@ -1,10 +1,11 @@
 // Running a CREATE.
-ghost use Rattle.std.specs.Prelude.{◌≡◌, Ok, true};
+ghost use Rattle.std.specs.Prelude.{◌≡◌, Ok, OnErr, true};
 ghost use Rattle.mt_values.specs.declared.statement.Statement.TheVariants as statement;
 ghost use Rattle.mt_values.specs.Annals.{Told};
 ghost use Rattle.replies.specs.mt_model.Written.{IsCreateText};
 ghost use Rattle.session.specs.Answers.{Answers, Knows, met};
-ghost use Rattle.session.specs.Lapses.{Accounts, Leaves, Never, counts, lapse};
+ghost use Rattle.session.specs.Lapses.{Accounts, KeepsRoot, Leaves, Never, counts, lapse};
+ghost use Rattle.session.specs.Merges.{KeepsParts};
 
 use crate::stopped::refused_line;
 use crate::{give_back, seal_entry};
@@ -22,8 +23,9 @@ const ACCEPTED_BEFORE: usize = 0;
 
 /// Makes a table, unless the CREATE is refused. All memory is taken before the commit.
 ///
-/// `NoMemory` where an allocation failed; the annals list the same entries, the root is as it was, and no count of faults rose.
-#[tactic(auto, using(crate::proofs::Accepting::keeps_nothing, crate::proofs::Leaving::accounts_none, crate::proofs::Leaving::leaves_itself))]
+/// `NoMemory` where an allocation failed; the annals list the same entries, store, disk and mark are as they were, and no count of faults
+/// rose.
+#[tactic(auto, using(crate::proofs::Accepting::keeps_nothing, crate::proofs::Leaving::accounts_none, crate::proofs::Leaving::leaves_itself, crate::proofs::Leaving::root_stays))]
 pub fn create<F: Dir, R: Arm<Dir = F>, D: Disk<Arm = R>, A: Annals>(
     alloc: Global,
     engine: &mut Engine<F, R, D, A>,
@@ -32,12 +34,17 @@ pub fn create<F: Dir, R: Arm<Dir = F>, D: Disk<Arm = R>, A: Annals>(
 ) -> Result<Reply, NoMemory>
     requires { IsCreateText text.now }
 
+    // What is answered, and why.
     ensures answers { (kept : Told) → R.tells arm.old ≡ true → Knows F.files kept engine.old
         → Answers F.files kept (Ok (statement.Create text.now))
         (met engine.old engine.new (R.failed arm.new)) result }
     ensures accounts { Accounts
         (counts (lapse engine.old engine.new (R.failed arm.old) (R.failed arm.new))) Never result }
+
+    // What the root and the arm are then.
     ensures leaves { Leaves F.files (R.tells arm.old ≡ true) engine.old engine.new }
+    ensures parts { KeepsParts engine.old.store engine.new.store }
+    ensures memory { OnErr result (KeepsRoot engine.old engine.new) }
     ensures tells { R.tells arm.new ≡ R.tells arm.old }
 {
     let schema = match resolve(alloc, text) {

@@ -4,6 +4,7 @@ ghost use Rattle.mt_values.specs.declared.statement.Statement.TheVariants as sta
 ghost use Rattle.mt_values.specs.Annals.{Told};
 ghost use Rattle.session.specs.Answers.{Answers, Knows, met};
 ghost use Rattle.session.specs.Lapses.{Accounts, Leaves, Never, counts, lapse};
+ghost use Rattle.session.specs.Turns.{AddsParts};
 
 use crate::read_block;
 use crate::sealing::seal_blocks;
@@ -20,19 +21,23 @@ use std::alloc::Global;
 /// them has its turn. What was accepted before a turn that is refused stands.
 ///
 /// `NoMemory` where an allocation failed; the annals list the commands that were accepted before, and no count of faults rose.
-#[tactic(auto, using(crate::proofs::Accepting::keeps_nothing, crate::proofs::Leaving::accounts_none, crate::proofs::Leaving::leaves_itself))]
+#[tactic(auto, using(crate::proofs::Accepting::keeps_nothing, crate::proofs::Leaving::accounts_none, crate::proofs::Leaving::leaves_itself, crate::proofs::Adding::adds_itself))]
 pub fn insert<F: Dir, R: Arm<Dir = F>, D: Disk<Arm = R>, A: Annals>(
     alloc: Global,
     engine: &mut Engine<F, R, D, A>,
     arm: &mut R,
     text: &InsertText,
 ) -> Result<Reply, NoMemory>
+    // What is answered, and why.
     ensures answers { (kept : Told) → R.tells arm.old ≡ true → Knows F.files kept engine.old
         → Answers F.files kept (Ok (statement.Insert text.now))
         (met engine.old engine.new (R.failed arm.new)) result }
     ensures accounts { Accounts
         (counts (lapse engine.old engine.new (R.failed arm.old) (R.failed arm.new))) Never result }
+
+    // What the root and the arm are then.
     ensures leaves { Leaves F.files (R.tells arm.old ≡ true) engine.old engine.new }
+    ensures adds { AddsParts text.now.table engine.old.store engine.new.store }
     ensures tells { R.tells arm.new ≡ R.tells arm.old }
 {
     let Some(schema) = engine.schema(alloc, &text.table)? else {

@@ -1,13 +1,12 @@
 // Running one statement.
-ghost use Rattle.std.specs.Prelude.{◌≡◌, true, false, IfOk};
+ghost use Rattle.std.specs.Prelude.{◌≡◌, true};
 ghost use Rattle.mt_values.specs.Annals.{Told};
-ghost use Rattle.replies.specs.mt_model.Refusals.{is_damage};
 ghost use Rattle.replies.specs.mt_model.Written.{IsWritten};
 ghost use Rattle.shared_store.specs.root_store.Shown.{HasNoMark};
-ghost use Rattle.shared_store.specs.root_store.Soundness.{HasSoundParts};
 ghost use Rattle.session.specs.Answers.{Answers, Knows, met};
 ghost use Rattle.session.specs.Lapses.{Accounts, Leaves, counts, lapse};
-ghost use Rattle.session.specs.Selects.{SelectsAsAsked, TellsOfStatement};
+ghost use Rattle.session.specs.Selects.{TellsOfStatement};
+ghost use Rattle.session.specs.Statements.{DoesAsAsked};
 
 use crate::creates::create;
 use crate::explains::explain;
@@ -38,13 +37,13 @@ pub fn run_statement<F: Dir, R: Arm<Dir = F>, D: Disk<Arm = R>, A: Annals, G: Ga
     // What is answered, and why.
     ensures answers { (kept : Told) → R.tells arm.old ≡ true → Knows F.files kept engine.old
         → Answers F.files kept statement (met engine.old engine.new (R.failed arm.new)) result }
-    ensures selects { (kept : Told) → Knows F.files kept engine.old
-        → SelectsAsAsked F.files engine.old.store kept statement (R.failed arm.new) result }
     ensures accounts { Accounts
         (counts (lapse engine.old engine.new (R.failed arm.old) (R.failed arm.new)))
         (TellsOfStatement F.files engine.old.store statement) result }
 
-    // What the root and the arm are then.
+    // What it does, and what the root and the arm are then.
+    ensures does { DoesAsAsked R.Stage F.files (R.tells arm.old ≡ true) statement
+        (lapse engine.old engine.new (R.failed arm.old) (R.failed arm.new)) result }
     ensures leaves { Leaves F.files (R.tells arm.old ≡ true) engine.old engine.new }
     ensures tells { R.tells arm.new ≡ R.tells arm.old }
 {

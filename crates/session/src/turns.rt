@@ -12,7 +12,7 @@ ghost use Rattle.shared_store.specs.root_store.Stores.{table_at};
 ghost use Rattle.shared_store.specs.Engines.{schema_kept};
 ghost use Rattle.session.specs.Answers.{Answers, Knows, met};
 ghost use Rattle.session.specs.Lapses.{Accounts, Leaves, Never, counts, lapse};
-ghost use Rattle.session.specs.Turns.{ArePartsAt, IsAcceptedAs, IsPartAt, IsRowsFor, NoneFailed, TakesTurn, commands_in_turn, in_turn, part_command, replied};
+ghost use Rattle.session.specs.Turns.{AddsParts, ArePartsAt, IsAcceptedAs, IsPartAt, IsRowsFor, NoneFailed, TakesTurn, commands_in_turn, in_turn, part_command, replied};
 
 use crate::sealing::{SealedBlock, give_back_part, give_back_parts};
 use crate::stopped::refused_line;
@@ -36,7 +36,7 @@ pub enum TurnReply {
 /// Adds a part to its table, after so many others of its statement. All memory is taken before the commit. A part that is not given
 /// to the disk goes back to the arm.
 ///
-/// `NoMemory` where an allocation failed; the annals list the same entries, the root is as it was, and no count of faults rose.
+/// `NoMemory` where an allocation failed; the annals list the same entries, the store keeps the same, and no count of faults rose.
 fn commit_block<F: Dir, R: Arm<Dir = F>, D: Disk<Arm = R>, A: Annals>(
     alloc: Global,
     engine: &mut Engine<F, R, D, A>,
@@ -65,6 +65,7 @@ fn commit_block<F: Dir, R: Arm<Dir = F>, D: Disk<Arm = R>, A: Annals>(
     ensures leaves { Leaves F.files
         ((schema : Schema) × IsPartAt engine.old.store table.now sealed schema) engine.old
         engine.new }
+    ensures adds { AddsParts table.now engine.old.store engine.new.store }
     ensures schema { schema_kept (table_at engine.new.store table.now)
         ≡ schema_kept (table_at engine.old.store table.now) }
     ensures arm { LeavesArm R.Arm arm.old arm.new ⊥ }
@@ -121,6 +122,7 @@ pub fn commit_parts<F: Dir, R: Arm<Dir = F>, D: Disk<Arm = R>, A: Annals>(
     ensures leaves { Leaves F.files
         ((schema : Schema) × ArePartsAt engine.old.store table.now parts.items schema) engine.old
         engine.new }
+    ensures adds { AddsParts table.now engine.old.store engine.new.store }
     ensures arm { LeavesArm R.Arm arm.old arm.new ⊥ }
 {
     let mut reply = unchanged;

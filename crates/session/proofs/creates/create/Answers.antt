@@ -17,7 +17,7 @@ use Rattle.replies.proofs.Undamaged.{line_of, stage_line}
 use Rattle.shared_store.specs.stage_dir.Stages.{Filled}
 use Rattle.session.specs.Lapses.{Never, counts, lapse}
 use Rattle.session.proofs.Accepting.{answers_kept, refused_as}
-use Rattle.session.proofs.CreateTurns.{create_answer_accounts, create_answered, create_as, create_leaves, create_refusal_accounts, create_refused, create_returned, sealed_entry}
+use Rattle.session.proofs.CreateTurns.{create_answer_accounts, create_answered, create_as, create_leaves, create_memory, create_parts, create_refusal_accounts, create_refused, create_returned, sealed_entry}
 use Rattle.session.proofs.Creating.{create_gives, created}
 use Rattle.session.proofs.Leaving.{accounts_line, accounts_nothing, leaves_itself, never_by}
 use Rattle.session.proofs.creates.create.Goals as goal
@@ -129,3 +129,29 @@ returns-in-Err-create-clause-leaves g c =
     let entry = c.in-Ok-seal_entry.ensures in
     create_leaves g.F.Dir.files text schema c.in-Ok.ensures sealed was c.create.new.self sealed _ (create_as text schema c.in_ok-table.table c.in_ok-table.ensures sealed was c.create.new.self sealed _ c.create.ensures.commits)
     c.create.ensures.goes_on (g.R.Arm.tells c.args.arm.now ≡ true) (λ tells. sealed_entry text schema c.in-Ok.ensures c.requires _ c.as_slice.ensures entry.few sealed.files (entry.files tells))
+
+pub returns-in-Ok-create-clause-parts : goal.returns-in-Ok-create-clause-parts
+returns-in-Ok-create-clause-parts g c =
+    let text = c.args.text.now in
+    let schema = c.in-Ok.schema in
+    let was = c.args.engine.now in
+    let sealed = c.in-Ok-seal_entry.sealed in
+    create_parts g.F.Dir.files text schema c.in-Ok.ensures sealed was c.create.new.self sealed _ (create_as text schema c.in_ok-table.table c.in_ok-table.ensures sealed was c.create.new.self sealed _ c.create.ensures.commits)
+
+pub returns-in-Err-create-clause-parts : goal.returns-in-Err-create-clause-parts
+returns-in-Err-create-clause-parts g c =
+    let text = c.args.text.now in
+    let schema = c.in-Ok.schema in
+    let was = c.args.engine.now in
+    let sealed = c.in-Ok-seal_entry.sealed in
+    create_parts g.F.Dir.files text schema c.in-Ok.ensures sealed was c.create.new.self sealed _ (create_as text schema c.in_ok-table.table c.in_ok-table.ensures sealed was c.create.new.self sealed _ c.create.ensures.commits)
+
+-- memory ran out in its turn
+pub returns-in-Err-create-clause-memory : goal.returns-in-Err-create-clause-memory
+returns-in-Err-create-clause-memory g c =
+    let text = c.args.text.now in
+    let schema = c.in-Ok.schema in
+    let was = c.args.engine.now in
+    let sealed = c.in-Ok-seal_entry.sealed in
+    create_memory g.F.Dir.files text schema c.in-Ok.ensures sealed was c.create.new.self sealed c.in-Err-create.field-0 (create_as text schema c.in_ok-table.table c.in_ok-table.ensures sealed was c.create.new.self sealed _ c.in-Err-create.ensures.commits)
+    c.refused_line.result c.refused_line.ensures.line c.refused_line.ensures.disk

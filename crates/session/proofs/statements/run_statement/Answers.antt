@@ -1,5 +1,5 @@
 use Rattle.std.proofs.lemmas.Result.{IfOk-weaker}
-use Rattle.std.proofs.Common.{◌≡◌, inl, IfOk, Err, Ok, true, sym, ap, ◌∙◌, subst, arith}
+use Rattle.std.proofs.Common.{◌≡◌, inl, IfOk, Err, Ok, true, refl, sym, ap, ◌∙◌, subst, arith}
 use Rattle.mt_values.specs.declared.statement.Cause.{Cause}
 use Rattle.mt_values.specs.declared.statement.Cause.TheVariants as cause
 use Rattle.mt_values.specs.declared.statement.Statement.TheVariants as statement
@@ -13,11 +13,24 @@ use Rattle.replies.proofs.Undamaged.{cause_line}
 use Rattle.shared_store.specs.Engines.{Opened}
 use Rattle.session.specs.Answers.{Answers, met}
 use Rattle.session.specs.Lapses.{Accounts, Never, counts, lapse, still}
-use Rattle.session.specs.Selects.{SelectsAsAsked, TellsOfStatement}
+use Rattle.session.specs.Selects.{TellsOfStatement}
+use Rattle.session.specs.Statements.{DoesAsAsked}
 use Rattle.session.proofs.Accepting.{answers_kept}
-use Rattle.session.proofs.Leaving.{accounts_nothing, accounts_where, leaves_itself, leaves_same, undamaged_never}
+use Rattle.session.proofs.Leaving.{accounts_nothing, accounts_where, leaves_itself, leaves_same}
 use Rattle.session.proofs.SelectAnswers.{explained_answers, selected_answers}
 use Rattle.session.proofs.statements.run_statement.Goals as goal
+
+-- a CREATE
+pub returns-in-Ok-Create-clause-does : goal.returns-in-Ok-Create-clause-does
+returns-in-Ok-Create-clause-does g c =
+    subst (λ (st : Item). DoesAsAsked g.R.Arm.Stage g.F.Dir.files (g.R.Arm.tells c.args.arm.now ≡ true) st (lapse c.args.engine.now c.create.new.engine (g.R.Arm.failed c.args.arm.now) (g.R.Arm.failed c.create.new.arm)) c.create.result)
+    (sym (c.in-Ok-Create.is ∙ ap Ok c.in-Ok-Create.field-0-is)) c.create.ensures.parts
+
+-- an INSERT
+pub returns-in-Ok-Insert-clause-does : goal.returns-in-Ok-Insert-clause-does
+returns-in-Ok-Insert-clause-does g c =
+    subst (λ (st : Item). DoesAsAsked g.R.Arm.Stage g.F.Dir.files (g.R.Arm.tells c.args.arm.now ≡ true) st (lapse c.args.engine.now c.insert.new.engine (g.R.Arm.failed c.args.arm.now) (g.R.Arm.failed c.insert.new.arm)) c.insert.result)
+    (sym (c.in-Ok-Insert.is ∙ ap Ok c.in-Ok-Insert.field-0-is)) c.insert.ensures.adds
 
 -- a SELECT
 pub returns-in-Ok-Select-clause-answers : goal.returns-in-Ok-Select-clause-answers
@@ -30,9 +43,10 @@ returns-in-Ok-Select-clause-answers g c = λ kept tells knows.
     (selected_answers files kept text here arm c.select.result knows (c.select.ensures.answers kept knows)) in
     subst (λ (st : Item). Answers files kept st (met here c.select.new.engine arm) c.select.result) (sym (c.in-Ok-Select.is ∙ ap Ok c.in-Ok-Select.field-0-is)) same
 
-pub returns-in-Ok-Select-clause-selects : goal.returns-in-Ok-Select-clause-selects
-returns-in-Ok-Select-clause-selects g c = λ kept knows.
-    subst (λ (st : Item). SelectsAsAsked g.F.Dir.files c.args.engine.now.store kept st (g.R.Arm.failed c.select.new.arm) c.select.result) (sym (c.in-Ok-Select.is ∙ ap Ok c.in-Ok-Select.field-0-is)) (c.select.ensures.answers kept knows)
+pub returns-in-Ok-Select-clause-does : goal.returns-in-Ok-Select-clause-does
+returns-in-Ok-Select-clause-does g c =
+    subst (λ (st : Item). DoesAsAsked g.R.Arm.Stage g.F.Dir.files (g.R.Arm.tells c.args.arm.now ≡ true) st (lapse c.args.engine.now c.select.new.engine (g.R.Arm.failed c.args.arm.now) (g.R.Arm.failed c.select.new.arm)) c.select.result)
+    (sym (c.in-Ok-Select.is ∙ ap Ok c.in-Ok-Select.field-0-is)) (c.select.ensures.stays, λ kept knows. IfOk-weaker c.select.result _ _ (λ reply from. from.plain) (c.select.ensures.answers kept knows))
 
 pub returns-in-Ok-Select-clause-accounts : goal.returns-in-Ok-Select-clause-accounts
 returns-in-Ok-Select-clause-accounts g c =
@@ -56,6 +70,11 @@ returns-in-Ok-Explain-clause-answers g c = λ kept tells knows.
     (explained_answers files kept text here arm c.explain.result knows (c.explain.ensures.answers kept knows)) in
     subst (λ (st : Item). Answers files kept st (met here c.explain.new.engine arm) c.explain.result) (sym (c.in-Ok-Explain.is ∙ ap Ok c.in-Ok-Explain.field-0-is)) same
 
+pub returns-in-Ok-Explain-clause-does : goal.returns-in-Ok-Explain-clause-does
+returns-in-Ok-Explain-clause-does g c =
+    subst (λ (st : Item). DoesAsAsked g.R.Arm.Stage g.F.Dir.files (g.R.Arm.tells c.args.arm.now ≡ true) st (lapse c.args.engine.now c.explain.new.engine (g.R.Arm.failed c.args.arm.now) (g.R.Arm.failed c.args.arm.now)) c.explain.result)
+    (sym (c.in-Ok-Explain.is ∙ ap Ok c.in-Ok-Explain.field-0-is)) (c.explain.ensures.stays, c.explain.ensures.counts)
+
 pub returns-in-Ok-Explain-clause-accounts : goal.returns-in-Ok-Explain-clause-accounts
 returns-in-Ok-Explain-clause-accounts g c =
     let here = c.args.engine.now in
@@ -66,6 +85,12 @@ returns-in-Ok-Explain-clause-accounts g c =
 
 pub returns-in-Ok-Explain-clause-leaves : goal.returns-in-Ok-Explain-clause-leaves
 returns-in-Ok-Explain-clause-leaves g c = leaves_same g.F.Dir.files _ c.args.engine.now c.explain.new.engine c.explain.ensures.stays
+
+-- an OPTIMIZE
+pub returns-in-Ok-Optimize-clause-does : goal.returns-in-Ok-Optimize-clause-does
+returns-in-Ok-Optimize-clause-does g c =
+    subst (λ (st : Item). DoesAsAsked g.R.Arm.Stage g.F.Dir.files (g.R.Arm.tells c.args.arm.now ≡ true) st (lapse c.args.engine.now c.optimize.new.engine (g.R.Arm.failed c.args.arm.now) (g.R.Arm.failed c.optimize.new.arm)) c.optimize.result)
+    (sym (c.in-Ok-Optimize.is ∙ ap Ok c.in-Ok-Optimize.field-0-is)) (c.optimize.ensures.beside, c.optimize.ensures.whole)
 
 -- a text that is no statement
 pub returns-in-Err-clause-answers : goal.returns-in-Err-clause-answers
@@ -78,6 +103,11 @@ returns-in-Err-clause-answers g c = λ kept tells knows.
     let line = subst (λ (w : Refusal). IfOk result (λ line. line ≡ refusal_line w)) c.of_cause.ensures c.refused.ensures in
     subst (λ (st : Item). Answers files kept st (met here here arm) result) (sym c.in-Err.is)
     (answers_kept files kept (Err c.in-Err.cause) here arm result (λ reply. reply ≡ refusal_line why) knows line (λ reply line n f. text_refused n kept reply c.in-Err.cause line))
+
+pub returns-in-Err-clause-does : goal.returns-in-Err-clause-does
+returns-in-Err-clause-does g c =
+    let arm = g.R.Arm.failed c.args.arm.now in
+    subst (λ (st : Item). DoesAsAsked g.R.Arm.Stage g.F.Dir.files (g.R.Arm.tells c.args.arm.now ≡ true) st (lapse c.args.engine.now c.args.engine.now arm arm) c.refused.result) (sym c.in-Err.is) refl
 
 pub returns-in-Err-clause-accounts : goal.returns-in-Err-clause-accounts
 returns-in-Err-clause-accounts g c =

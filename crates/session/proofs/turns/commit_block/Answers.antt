@@ -3,7 +3,8 @@ use Rattle.replies.specs.mt_model.Reply.{ok_line}
 use Rattle.shared_store.specs.root_store.Stores.{table_at}
 use Rattle.shared_store.specs.Engines.{schema_kept}
 use Rattle.session.proofs.Leaving.{arm_stays}
-use Rattle.session.proofs.Turning.{found_table, part_accepted, part_answer_accounts, part_ended, part_ended_accounts, part_leaves, part_not_begun, part_refusal_accounts, part_refused, part_reply, part_returned, part_schema}
+use Rattle.session.proofs.Adding.{adds_itself}
+use Rattle.session.proofs.Turning.{found_table, part_accepted, part_adds, part_answer_accounts, part_ended, part_ended_accounts, part_leaves, part_not_begun, part_refusal_accounts, part_refused, part_reply, part_returned, part_schema}
 use Rattle.session.proofs.turns.commit_block.Goals as goal
 
 pub insert-requires-clause-rows : goal.insert-requires-clause-rows
@@ -12,6 +13,9 @@ insert-requires-clause-rows g c κs within = λ t there. c.requires.rows t.schem
 -- memory ran out before its turn
 pub returns-in-Err-clause-answers : goal.returns-in-Err-clause-answers
 returns-in-Err-clause-answers g c = λ kept schema knows at. part_not_begun g.F.Dir.files kept c.args.engine.now (g.R.Arm.failed c.give_back_part.new.arm) knows c.args.table.now c.args.sealed c.args.accepted schema
+
+pub returns-in-Err-clause-adds : goal.returns-in-Err-clause-adds
+returns-in-Err-clause-adds g c = adds_itself c.args.table.now c.args.engine.now.store
 
 pub returns-in-Err-clause-arm : goal.returns-in-Err-clause-arm
 returns-in-Err-clause-arm g c = arm_stays g.R.Arm c.args.arm.now c.give_back_part.new.arm c.give_back_part.ensures.tells (c.give_back_part.ensures.none_failed c.requires.none_failed)
@@ -36,6 +40,11 @@ returns-in-Ok-insert-clause-accounts g c =
     let found = found_table (table_at c.args.engine.now.store c.args.table.now) c.requires.there in
     part_answer_accounts g.F.Dir.files c.args.engine.now c.insert.new.self c.args.table.now found.0 c.args.sealed _ (c.in-Ok-insert.ensures.commits found.0 found.1) c.fill.result
     (c.fill.ensures ∙ ap ok_line (c.in-Ok-insert.ensures.length ∙ (c.in-Ok-insert.ensures.commits found.0 found.1).enters.enters.length_is)) (g.R.Arm.failed c.args.arm.now)
+
+pub returns-in-Ok-insert-clause-adds : goal.returns-in-Ok-insert-clause-adds
+returns-in-Ok-insert-clause-adds g c =
+    let found = found_table (table_at c.args.engine.now.store c.args.table.now) c.requires.there in
+    part_adds g.F.Dir.files c.args.engine.now c.insert.new.self c.args.table.now found.0 c.args.sealed _ (c.insert.ensures.commits found.0 found.1)
 
 pub returns-in-Ok-insert-clause-leaves : goal.returns-in-Ok-insert-clause-leaves
 returns-in-Ok-insert-clause-leaves g c =
@@ -65,6 +74,11 @@ returns-in_ok-reply-in-Err-insert-clause-accounts g c =
     let back = part_returned files was now c.args.table.now found.0 s c.in-Err-insert.field-0 d c.requires.none_failed in
     part_refusal_accounts files was now c.args.table.now found.0 s c.in-Err-insert.field-0 d c.requires.none_failed c.args.accepted (Ok c.in_ok-reply-in-Err-insert.reply) c.in_ok-reply-in-Err-insert.ensures.line tt
     (g.R.Arm.failed c.args.arm.now) (g.R.Arm.failed c.give_back_part-in-Err-insert.new.arm) (c.give_back_part-in-Err-insert.ensures.none_failed back)
+
+pub returns-in_ok-reply-in-Err-insert-clause-adds : goal.returns-in_ok-reply-in-Err-insert-clause-adds
+returns-in_ok-reply-in-Err-insert-clause-adds g c =
+    let found = found_table (table_at c.args.engine.now.store c.args.table.now) c.requires.there in
+    part_adds g.F.Dir.files c.args.engine.now c.insert.new.self c.args.table.now found.0 c.args.sealed _ (c.insert.ensures.commits found.0 found.1)
 
 pub returns-in_ok-reply-in-Err-insert-clause-leaves : goal.returns-in_ok-reply-in-Err-insert-clause-leaves
 returns-in_ok-reply-in-Err-insert-clause-leaves g c =
@@ -111,6 +125,11 @@ returns-in_err-reply-in-Err-insert-clause-arm g c =
     let found = found_table (table_at c.args.engine.now.store c.args.table.now) c.requires.there in
     arm_stays g.R.Arm c.args.arm.now c.give_back_part-in-Err-insert.new.arm c.give_back_part-in-Err-insert.ensures.tells (c.give_back_part-in-Err-insert.ensures.none_failed
     (part_returned g.F.Dir.files c.args.engine.now c.insert.new.self c.args.table.now found.0 c.args.sealed c.in-Err-insert.field-0 (c.in-Err-insert.ensures.commits found.0 found.1) c.requires.none_failed))
+
+pub returns-in_err-reply-in-Err-insert-clause-adds : goal.returns-in_err-reply-in-Err-insert-clause-adds
+returns-in_err-reply-in-Err-insert-clause-adds g c =
+    let found = found_table (table_at c.args.engine.now.store c.args.table.now) c.requires.there in
+    part_adds g.F.Dir.files c.args.engine.now c.insert.new.self c.args.table.now found.0 c.args.sealed _ (c.insert.ensures.commits found.0 found.1)
 
 pub returns-in_err-reply-in-Err-insert-clause-leaves : goal.returns-in_err-reply-in-Err-insert-clause-leaves
 returns-in_err-reply-in-Err-insert-clause-leaves g c =

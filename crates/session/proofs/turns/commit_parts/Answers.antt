@@ -5,6 +5,7 @@ use Rattle.session.specs.declared.turns.TurnReply.{TurnReply}
 use Rattle.session.specs.Answers.{Answered, EndsUnanswered, met}
 use Rattle.session.specs.Lapses.{Accounts, Never, counts, lapse}
 use Rattle.session.specs.Turns.{IsAcceptedAs, IsRowsFor, NoneFailed, TakesTurn, part_command, reply_in}
+use Rattle.session.proofs.Adding.{adds_then}
 use Rattle.session.proofs.Leaving.{arm_stays, arm_stays_on}
 use Rattle.session.proofs.Running.{accounts_next, counted, leaves_next, of_next, of_rest, run_accounts, run_begins, run_done, run_ended, run_on, run_refused}
 use Rattle.session.proofs.turns.commit_parts.Goals as goal
@@ -35,7 +36,7 @@ turns-preserved g c =
     let here = c.turns.engine in
     let accepted = subst (λ (x : TurnReply). IsAcceptedAs here new (Ok x)) is done.accepted in
     record {
-      run = run_on g.F.Dir.files _ c.turns.invariant.run c.pop.new.self.items c.in-Some.sealed c.in-Some.ensures.items new arm done.leaves accepted.1 done.schema
+      run = run_on g.F.Dir.files _ c.turns.invariant.run c.pop.new.self.items c.in-Some.sealed c.in-Some.ensures.items new arm done.leaves done.adds accepted.1 done.schema
           (λ kept schema knows at. subst (λ (x : TurnReply). TakesTurn g.F.Dir.files kept (record { command = part_command schema c.args.table.now c.in-Some.sealed; before = c.turns.accepted }) (met here new arm) (Ok x)) is
           (done.answers kept schema knows at));
       reply = accepted.0;
@@ -69,6 +70,9 @@ returns-in-Ok-Refused-clause-accounts g c =
     (g.R.Arm.failed c.give_back_parts.new.arm) (c.turns.invariant.arm.calm (λ no. no)) (sym back) (Ok c.in-Ok-Refused.line)
     (subst (λ (x : TurnReply). Accounts (counts (lapse here new (g.R.Arm.failed c.turns.arm) (g.R.Arm.failed c.commit_block.new.arm))) Never (Ok (reply_in x))) c.in-Ok-Refused.field-0-is c.in-Ok-Refused.ensures.accounts)
 
+pub returns-in-Ok-Refused-clause-adds : goal.returns-in-Ok-Refused-clause-adds
+returns-in-Ok-Refused-clause-adds g c = adds_then c.args.table.now c.args.engine.now.store c.turns.engine.store c.commit_block.new.engine.store c.turns.invariant.run.adds c.commit_block.ensures.adds
+
 pub returns-in-Ok-Refused-clause-leaves : goal.returns-in-Ok-Refused-clause-leaves
 returns-in-Ok-Refused-clause-leaves g c = leaves_next g.F.Dir.files _ c.turns.invariant.run c.pop.new.self.items c.in-Some.sealed c.in-Some.ensures.items c.commit_block.new.engine c.commit_block.ensures.leaves
 
@@ -93,6 +97,9 @@ returns-in-Err-clause-accounts g c =
     accounts_next g.F.Dir.files _ c.turns.invariant.run c.pop.new.self.items c.in-Some.sealed c.in-Some.ensures.items c.commit_block.new.engine (g.R.Arm.failed c.args.arm.now) (g.R.Arm.failed c.turns.arm) (g.R.Arm.failed c.commit_block.new.arm)
     (g.R.Arm.failed c.give_back_parts-in-Err.new.arm) (c.turns.invariant.arm.calm (λ no. no)) (sym back) (Err c.in-Err.field-0) c.in-Err.ensures.accounts
 
+pub returns-in-Err-clause-adds : goal.returns-in-Err-clause-adds
+returns-in-Err-clause-adds g c = adds_then c.args.table.now c.args.engine.now.store c.turns.engine.store c.commit_block.new.engine.store c.turns.invariant.run.adds c.commit_block.ensures.adds
+
 pub returns-in-Err-clause-leaves : goal.returns-in-Err-clause-leaves
 returns-in-Err-clause-leaves g c = leaves_next g.F.Dir.files _ c.turns.invariant.run c.pop.new.self.items c.in-Some.sealed c.in-Some.ensures.items c.commit_block.new.engine c.commit_block.ensures.leaves
 
@@ -107,6 +114,9 @@ returns-clause-answers g c = λ kept schema text knows parts gives.
 
 pub returns-clause-accounts : goal.returns-clause-accounts
 returns-clause-accounts g c = run_accounts g.F.Dir.files _ c.turns.invariant.run c.turns.reply (g.R.Arm.failed c.args.arm.now) (g.R.Arm.failed c.turns.arm) c.turns.invariant.reply (c.turns.invariant.arm.calm (λ no. no))
+
+pub returns-clause-adds : goal.returns-clause-adds
+returns-clause-adds g c = c.turns.invariant.run.adds
 
 pub returns-clause-arm : goal.returns-clause-arm
 returns-clause-arm g c = c.turns.invariant.arm
