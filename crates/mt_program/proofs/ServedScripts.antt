@@ -23,7 +23,7 @@ use Rattle.session.specs.shared_store.Levels.{KeepsGreatest, has_greatest}
 use Rattle.session.specs.shared_store.Engines.{GoesOn, Opened}
 use Rattle.root_log.specs.root_store.Crashes.{Storage}
 use Rattle.std.proofs.lemmas.Bool.Decides.{nat_tests}
-use Rattle.session.specs.replies.Causes.{HasCauses}
+use Rattle.session.specs.replies.Causes.{Counts, HasCauses}
 use Rattle.session.specs.replies.Foreseen.{Foresees, history, is_unsettled}
 use Rattle.mt_program.specs.Courses.{AreStopped, Item, TalliesReplies, any_unsettles, course_of}
 use Rattle.mt_program.specs.Serving.{MayComeTo, Output, Progress, Ran, Served, ServedBy, stretch_of}
@@ -113,9 +113,8 @@ last_or_before (z ∷ xs) y (w ∷ front) x more is =
     ]
 
 -- a commit that failed shows in the disk's count, which was the one at opening before
-pub unsettled_rose : (was opened disk_old disk_new arm_old arm_new : ℕ) (reply : List ℕ) → was ≡ opened → opened ≤ disk_old → opened < 2 ^ 64 - 1 → HasCauses was disk_old disk_new arm_old arm_new reply → is_unsettled reply ≡ true
-    → (disk_old ≡ opened) × (opened < disk_new)
-unsettled_rose was opened disk_old disk_new arm_old arm_new reply same low below causes failed =
+pub unsettled_rose : (c : Counts) (opened : ℕ) (reply : List ℕ) → c.opened ≡ opened → opened ≤ c.disk_was → opened < 2 ^ 64 - 1 → HasCauses c reply → is_unsettled reply ≡ true → (c.disk_was ≡ opened) × (opened < c.disk)
+unsettled_rose c opened reply same low below causes failed =
     let is : code_of reply ≡ 16 = grind (arith, failed, nat_tests) in
     let calm = (causes.unsettled is).0 in
     let rose = (causes.unsettled is).1 in
@@ -385,9 +384,9 @@ module _ {F : Type 0} (files_of : F → Option Files) (kept : Told) (p : Progres
     stops = refl;
   }
 
-  module _ (reply : List ℕ) (a : Answered files_of s.ran.now st (turned before after arm_after) reply) (causes : HasCauses before.store.opened before.storage.failed after.storage.failed arm arm_after reply) where
+  module _ (reply : List ℕ) (a : Answered files_of s.ran.now st (turned before after arm_after) reply) (causes : HasCauses (counts (lapse before after arm arm_after)) reply) where
     failed : is_unsettled reply ≡ true → (before.storage.failed ≡ start.store.opened) × (start.store.opened < after.storage.failed)
-    failed = unsettled_rose before.store.opened start.store.opened before.storage.failed after.storage.failed arm arm_after reply fits.opened fits.low fits.below causes
+    failed = unsettled_rose (counts (lapse before after arm arm_after)) start.store.opened reply fits.opened fits.low fits.below causes
 
     ran_answered : Ran kept (stretch_of (turned start after arm_after)) (course_of (s.done ++ st ∷ []) (s.replies ++ reply ∷ []) None)
     ran_answered = ran_more files_of kept start before after arm arm_after fits s.done s.replies st reply s.ran a failed

@@ -6,11 +6,12 @@ use Rattle.mt_outside.specs.declared.disk.Arm.{Ghosts as ArmGhosts}
 use Rattle.mt_outside.specs.Files.{Files}
 use Rattle.mt_outside.specs.Leaves.{LeavesArm}
 use Rattle.replies.specs.mt_model.Refusals.{is_damage}
-use Rattle.replies.specs.Causes.{HasCauses}
+use Rattle.replies.specs.Causes.{Counts, HasCauses}
+use Rattle.replies.proofs.Causing.{counted}
 use Rattle.shared_store.specs.durable_commit.Publications.{Storage}
 use Rattle.shared_store.specs.Engines.{GoesOn, Opened}
 use Rattle.shared_store.proofs.Levels.{parts_stay, parts_then}
-use Rattle.session.specs.Lapses.{Accounts, AcceptsNothing, Counts, KeepsOpen, KeepsRoot, Leaves, Never, NoneFailedIn, counts, lapse, still}
+use Rattle.session.specs.Lapses.{Accounts, AcceptsNothing, KeepsOpen, KeepsRoot, Leaves, Never, NoneFailedIn, counts, lapse, still}
 
 -- ---- what stays
 
@@ -109,7 +110,7 @@ module _ {F : Type 0} (files_of : F → Option Files) where
 
 module _ (c : Counts) (Damage : List ℕ → Type 0) where
   -- a line that was formed, where this is said of it
-  pub accounts_line : (line : Result (List ℕ) NoMemory) (P : List ℕ → Type 0) → IfOk line P → ((reply : List ℕ) → P reply → HasCauses c.opened c.disk_was c.disk c.arm_was c.arm reply)
+  pub accounts_line : (line : Result (List ℕ) NoMemory) (P : List ℕ → Type 0) → IfOk line P → ((reply : List ℕ) → P reply → HasCauses c reply)
       → ((reply : List ℕ) → P reply → is_damage reply ≡ true → Damage reply) → IfErr line (λ _. NoneFailedIn c) → c.arm_was ≤ c.arm → Accounts c Damage line
   accounts_line (Ok reply) P is causes damage calm later = record { causes = causes reply is; damaged = damage reply is; memory = tt; later = later }
   accounts_line (Err e) P is causes damage calm later = record { causes = tt; damaged = tt; memory = calm; later = later }
@@ -130,22 +131,22 @@ module _ (Damage : List ℕ → Type 0) (opened disk arm : ℕ) where
   accounts_none e = record { causes = tt; damaged = tt; memory = (refl, refl); later = omega arith }
 
   -- or a line in answer
-  pub accounts_still : (line : Result (List ℕ) NoMemory) (P : List ℕ → Type 0) → IfOk line P → ((reply : List ℕ) → P reply → HasCauses opened disk disk arm arm reply) → ((reply : List ℕ) → P reply → is_damage reply ≡ false)
+  pub accounts_still : (line : Result (List ℕ) NoMemory) (P : List ℕ → Type 0) → IfOk line P → ((reply : List ℕ) → P reply → HasCauses (still opened disk arm arm) reply) → ((reply : List ℕ) → P reply → is_damage reply ≡ false)
       → Accounts (still opened disk arm arm) Damage line
   accounts_still line P is causes none =
       accounts_line (still opened disk arm arm) Damage line P is causes (λ reply p bad. absurd (never_by reply (none reply p) bad)) (in_any_case line (refl, refl)) (omega arith)
 
 -- nothing was done to a root
 pub accounts_nothing : {F : Type 0} (Damage : List ℕ → Type 0) (here : Opened F) (arm : ℕ) (line : Result (List ℕ) NoMemory) (P : List ℕ → Type 0) → IfOk line P
-    → ((reply : List ℕ) → P reply → HasCauses here.store.opened here.storage.failed here.storage.failed arm arm reply) → ((reply : List ℕ) → P reply → is_damage reply ≡ false) → Accounts (counts (lapse here here arm arm)) Damage line
+    → ((reply : List ℕ) → P reply → HasCauses (counts (lapse here here arm arm)) reply) → ((reply : List ℕ) → P reply → is_damage reply ≡ false) → Accounts (counts (lapse here here arm arm)) Damage line
 accounts_nothing Damage here arm line P is causes none = accounts_still Damage here.store.opened here.storage.failed arm line P is causes none
 
 -- the causes of a reply by counts that are the same
-pub causes_same : (opened o disk d after arm_old a arm_new b : ℕ) (reply : List ℕ) → o ≡ opened → d ≡ disk → a ≡ arm_old → b ≡ arm_new → HasCauses o d after a b reply → HasCauses opened disk after arm_old arm_new reply
+pub causes_same : (opened o disk d after arm_old a arm_new b : ℕ) (reply : List ℕ) → o ≡ opened → d ≡ disk → a ≡ arm_old → b ≡ arm_new → HasCauses (counted o d after a b) reply → HasCauses (counted opened disk after arm_old arm_new) reply
 causes_same opened o disk d after arm_old a arm_new b reply first second third fourth has =
-    subst (λ (x : ℕ). HasCauses opened disk after arm_old x reply) fourth
-    (subst (λ (x : ℕ). HasCauses opened disk after x b reply) third
-    (subst (λ (x : ℕ). HasCauses opened x after a b reply) second (subst (λ (x : ℕ). HasCauses x d after a b reply) first has)))
+    subst (λ (x : ℕ). HasCauses (counted opened disk after arm_old x) reply) fourth
+    (subst (λ (x : ℕ). HasCauses (counted opened disk after x b) reply) third
+    (subst (λ (x : ℕ). HasCauses (counted opened x after a b) reply) second (subst (λ (x : ℕ). HasCauses (counted x d after a b) reply) first has)))
 
 -- where it tells of damage, that says more
 pub accounts_where : (c : Counts) (Damage More : List ℕ → Type 0) → ((reply : List ℕ) → Damage reply → More reply) → (result : Result (List ℕ) NoMemory) → Accounts c Damage result → Accounts c More result

@@ -34,7 +34,7 @@ use Rattle.shared_store.specs.root_store.Stores.{CoreStands, table_at}
 use Rattle.replies.specs.Causes.{HasCauses}
 use Rattle.replies.specs.Foreseen.{Foresees, history, is_unsettled}
 use Rattle.session.specs.Stops.{IsLineOf}
-use Rattle.replies.proofs.Causing.{says_script, says_stopped, says_unsettled}
+use Rattle.replies.proofs.Causing.{counted, says_script, says_stopped, says_unsettled}
 use Rattle.replies.proofs.Counting.{commit_failed, was_stopped}
 use Rattle.session.proofs.Creating.{create_gives, created, turn_free, turn_full, turn_taken}
 use Rattle.session.proofs.Inserting.{inserted, turn_free as room_free, turn_full as room_full, turn_spent}
@@ -254,7 +254,7 @@ module _ {F : Type 0} (store : CoreStore F) (table : List ℕ) (now : ℕ) (caus
 
 pub refused_says : (opened before disk arm_old arm_new accepted : ℕ) (table : List ℕ) (cause : Refused) (reply : List ℕ) → IsLineOf accepted table cause reply → SaysRisen opened before (Some cause)
     → (cause ≡ refused.Disk → (before ≡ opened) × Rose before disk)
-    → HasCauses opened before disk arm_old arm_new reply
+    → HasCauses (counted opened before disk arm_old arm_new) reply
 refused_says opened before disk arm_old arm_new accepted table refused.NoMemory reply line risen rose = absurd line
 refused_says opened before disk arm_old arm_new accepted table refused.Disk reply line risen rose = says_unsettled opened before disk arm_old arm_new reply accepted line (rose refl)
 refused_says opened before disk arm_old arm_new accepted table (refused.Stopped o n) reply line risen rose =

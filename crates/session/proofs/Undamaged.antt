@@ -30,7 +30,8 @@ use Rattle.final_fold.specs.declared.asking.Wanted.{Wanted}
 use Rattle.final_fold.specs.Matches.{SayOfEach}
 use Rattle.final_fold.specs.row_merge.MergedParts.{PartsHold}
 use Rattle.final_fold.proofs.Sound.{fold_sound, matches_sound, whole_sound}
-use Rattle.session.specs.Lapses.{Accounts, Counts}
+use Rattle.replies.specs.Causes.{Counts}
+use Rattle.session.specs.Lapses.{Accounts}
 use Rattle.session.specs.Merges.{TellsOfTable}
 use Rattle.session.specs.Selects.{ExplainsRead, TellsOfDamage, TellsOfSelect, TellsOfStatement}
 use Rattle.session.proofs.Damaged.{all_hold}

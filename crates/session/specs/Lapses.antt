@@ -3,7 +3,7 @@ use Rattle.std.specs.Prelude.{◌≡◌, ◌<◌, ◌≤◌, ℕ, true, false, L
 use Rattle.mt_base.specs.declared.memory.NoMemory.{NoMemory}
 use Rattle.mt_outside.specs.Files.{Files}
 use Rattle.replies.specs.mt_model.Refusals.{is_damage}
-use Rattle.replies.specs.Causes.{HasCauses}
+use Rattle.replies.specs.Causes.{Counts, HasCauses}
 use Rattle.shared_store.specs.root_commits.Commits.{SameStore}
 use Rattle.shared_store.specs.root_store.Soundness.{HasSoundParts}
 use Rattle.shared_store.specs.Engines.{GoesThroughCrashes, IsOpen, Opened}
@@ -19,14 +19,7 @@ pub record Lapse (F : Type 0) : Type 0 where
 abbrev pub lapse : {F : Type 0} → Opened F → Opened F → ℕ → ℕ → Lapse F
 lapse was now arm_was arm = record { was = was; now = now; arm_was = arm_was; arm = arm }
 
--- the counts of faults before and after, the disk's and the arm's, and the disk's at opening (docs/architecture.md, "Counts of faults")
-pub record Counts : Type 0 where
-  pub opened : ℕ
-  pub disk_was : ℕ
-  pub disk : ℕ
-  pub arm_was : ℕ
-  pub arm : ℕ
-
+-- the counts of faults before and after (docs/architecture.md, "Counts of faults")
 abbrev pub counts : {F : Type 0} → Lapse F → Counts
 counts m = record { opened = m.was.store.opened; disk_was = m.was.storage.failed; disk = m.now.storage.failed; arm_was = m.arm_was; arm = m.arm }
 
@@ -70,7 +63,7 @@ pub record Leaves {F : Type 0} (files_of : F → Option Files) (known : Type 0) 
 -- What accounts for a reply, or for none: the outside did what it says, and it tells of damage only so; without a reply no call failed. The
 -- arm's count is not below.
 pub record Accounts (c : Counts) (Damage : List ℕ → Type 0) (result : Result (List ℕ) NoMemory) : Type 0 where
-  pub causes : IfOk result (HasCauses c.opened c.disk_was c.disk c.arm_was c.arm)
+  pub causes : IfOk result (HasCauses c)
   pub damaged : IfOk result (λ reply. is_damage reply ≡ true → Damage reply)
   pub memory : OnErr result (NoneFailedIn c)
   pub later : c.arm_was ≤ c.arm

@@ -214,7 +214,7 @@ WorkFailed n full reply = ReadOrStageFailed n reply ⊎ ((full ≡ true) × Leve
 -- A merge was refused with a reply. Where this is known, it is one that it may have, whatever the outside comes to (docs/replies.md, "Faults").
 pub record RefusesMerge {F : Type 0} (files_of : F → Option Files) (known : Type 0) (m : Lapse F) (full : Bool) (reply : List ℕ) : Type 0 where
   pub said : IsRefusal reply
-  pub causes : HasCauses m.was.store.opened m.was.storage.failed m.now.storage.failed m.arm_was m.arm reply
+  pub causes : HasCauses (counts m) reply
   pub takes : known → (h : History) → CoreStands files_of h m.was.store
       → (n : Outside) → Foresees m.was.store.opened m.now.storage.failed m.arm (has_greatest m.now.store) n → WorkFailed n full reply
 
