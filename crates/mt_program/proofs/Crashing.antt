@@ -13,8 +13,6 @@ use Rattle.root_log.proofs.RootStoreCrashMarks.{safe_begun, some_one}
 use Rattle.mt_program.specs.Crashes.{IsGainedBy, LeavesForCrashes, LeavesOfScript}
 use Rattle.mt_program.specs.Courses.{Item}
 use Rattle.mt_program.proofs.Gaining.{gained_more, gained_nothing}
-use Rattle.session.specs.Lapses.{KeepsOpen}
-use Rattle.session.specs.shared_store.Engines.{GoesOn, IsOpen, Opened}
 
 -- the bytes that are told
 abbrev told_or_none : Option (List ℕ) → List ℕ
@@ -91,16 +89,3 @@ left_moved {first = first} {start = start} was now disk mark list back left = re
     gained = subst (λ (a : Option Told). IsGainedBy (statements_of left.text) a first) (sym list) left.leaves.gained;
   };
 }
-
--- ---- a root that goes on
-
--- nothing was done
-pub stays_open : {F : Type 0} (root : Opened F) → IsOpen root → GoesOn root root
-stays_open root ready = record { found = ready; left = ready; opened = refl; policy = refl; started = refl; later = omega arith }
-
--- a turn after turns
-pub goes_further : {F : Type 0} (was now later : Opened F) → GoesOn was now → KeepsOpen now later → GoesOn was later
-goes_further was now later first next =
-    let low = first.later in
-    let high = next.later in
-    record { found = first.found; left = next.ready first.left; opened = next.opened ∙ first.opened; policy = next.policy ∙ first.policy; started = next.started ∙ first.started; later = omega (arith, low, high) }

@@ -57,7 +57,6 @@ module _ (words : List (String Global)) (line : Line) (says : command_of words �
         let opened = left.opening told damage known damaged in
         record { ended = ended; number_is = refl; writes = opened.0; disk = opened.1; clock = opened.2; annals = opened.3 };
     damaged = λ told known bad. left.damaged told known (same_number ended status.Damaged bad);
-    sound = λ kept told listed known stands bad. left.sound kept told listed known stands (same_number ended status.Damaged bad);
   }
 
   of_folder : OfFolder words before after
@@ -91,7 +90,7 @@ module _ (words : List (String Global)) (none : command_of words ≡ None) (w : 
   other_causes = record {
     number = omega arith;
     words_only = λ is. none;
-    no_command = λ again. (inl refl, untouched w);
+    no_command = λ again. inl refl;
     read = λ is. cc;
     unfailed = λ other. refl;
     write = λ is. cc;
@@ -106,7 +105,6 @@ module _ (words : List (String Global)) (none : command_of words ≡ None) (w : 
   other_damage = record {
     opening = λ told damage known damaged. record { ended = status.NotWords; number_is = refl; writes = refl; disk = refl; clock = refl; annals = refl };
     damaged = λ told known bad. cc;
-    sound = λ kept told listed known stands bad. cc;
   }
 
   other_words : Promises words w (status_number status.NotWords) w
@@ -125,7 +123,7 @@ module _ (words : List (String Global)) (w : World) where
   memory_causes = record {
     number = omega arith;
     words_only = λ is. cc;
-    no_command = λ none. (inr refl, untouched w);
+    no_command = λ none. inr refl;
     read = λ is. cc;
     unfailed = λ other. refl;
     write = λ is. cc;
@@ -140,7 +138,6 @@ module _ (words : List (String Global)) (w : World) where
   memory_damage = record {
     opening = λ told damage known damaged. record { ended = status.NoMemory; number_is = refl; writes = refl; disk = refl; clock = refl; annals = refl };
     damaged = λ told known bad. cc;
-    sound = λ kept told listed known stands bad. cc;
   }
 
   memory_ran_out : Promises words w (status_number status.NoMemory) w

@@ -18,9 +18,9 @@ use Rattle.session.proofs.MtModelReplies.{replies_more, replies_append}
 use Rattle.session.specs.replies.declared.tally.Tally.{Tally}
 use Rattle.root_log.specs.root_store.Soundness.{RootStands}
 use Rattle.session.specs.Answers.{Answered, EndsUnanswered, Knows, Turned, unsettles}
-use Rattle.session.specs.Lapses.{Leaves}
+use Rattle.session.specs.Lapses.{KeepsOpen, Leaves, counts, lapse}
 use Rattle.session.specs.shared_store.Levels.{KeepsGreatest, has_greatest}
-use Rattle.session.specs.shared_store.Engines.{GoesOn, Opened}
+use Rattle.session.specs.shared_store.Engines.{IsOpen, Opened}
 use Rattle.root_log.specs.root_store.Crashes.{Storage}
 use Rattle.std.proofs.lemmas.Bool.Decides.{nat_tests}
 use Rattle.session.specs.replies.Causes.{Counts, HasCauses}
@@ -150,14 +150,14 @@ pub record Follows {F : Type 0} (start before after : Opened F) (arm arm_after :
   pub still : start.store.opened < before.storage.failed → after.storage.annals ≡ before.storage.annals
 
 -- the counts of roots that go on
-pub follows : {F : Type 0} {files_of : F → Option Files} {known : Type 0} (start before after : Opened F) (arm arm_after : ℕ) → GoesOn start before → Leaves files_of known before after → arm ≤ arm_after → Follows start before after arm arm_after
-follows start before after arm arm_after first next less =
-    let low = first.found.opened in
+pub follows : {F : Type 0} {files_of : F → Option Files} {known : Type 0} (start before after : Opened F) (arm arm_after : ℕ) → IsOpen start → KeepsOpen start before → Leaves files_of known before after → arm ≤ arm_after → Follows start before after arm arm_after
+follows start before after arm arm_after ready first next less =
+    let low = ready.opened in
     let later = first.later in
     record {
       opened = first.opened;
       low = omega (arith, low, later);
-      below = first.found.below;
+      below = ready.below;
       later = next.keeps.later;
       arm_later = less;
       levels = next.parts.levels;

@@ -68,11 +68,10 @@ pub record NotOpened (number : ℕ) (line : List ℕ) (before after : World) : T
   pub annals : after.storage.annals ≡ before.storage.annals
 
 -- What is told of damage. A root that is damaged is not opened. The status 7 comes over no other root, and so not over one that stands for
--- the list of the annals.
+-- a list: none such is damaged (`damage_of_a_root_is_one` of root_opening).
 pub record OfDamage (before : World) (status : ℕ) (after : World) : Type 0 where
   pub opening : (told : root.Told) (damage : Damage) → before.storage.disk ≡ Some told → IsRootDamage (root.names_of told) damage → NotOpened status (damage_line damage) before after
   pub damaged : (told : root.Told) → before.storage.disk ≡ Some told → status ≡ 7 → IsDamagedRoot (root.names_of told)
-  pub sound : (kept : Told) (told : root.Told) → before.storage.annals ≡ Some kept → before.storage.disk ≡ Some told → Stands (root.names_of told) (history kept) → status ≡ 7 → ⊥
 
 -- What a crash leaves, at whatever moment of the run. Where whatever a crash left of the disk before stood for the list of the annals, it holds
 -- all that was noted; where only the root as it read did, and has a name, that is so once opening has settled what it read, and before that nothing changed.
@@ -114,14 +113,13 @@ pub record LeavesOfRun (path : List ℕ) (before : World) (ended : Status) (afte
   pub calm : IsAnswered ended → after.storage.failed ≡ before.storage.failed
   pub later : before.storage.failed ≤ after.storage.failed
 
--- Why a run ends with its number: 2 only where the words are no command line, and where they are none it ends with 2, or with 6, and nothing was
--- touched; 3 exactly where the source's count rose, but for one that can't rise; 4 and 5 only where the count of the sink or the disk rose; 8 only
+-- Why a run ends with its number: 2 only where the words are no command line, and where they are none it ends with 2, or with 6; 3 exactly where the source's count rose, but for one that can't rise; 4 and 5 only where the count of the sink or the disk rose; 8 only
 -- where 2^40 bytes were read; 0 and 1 only where the source was read to its end and the disk's count stayed. A disk whose count can't rise is not
 -- opened.
 pub record OfCauses (words : List (String Global)) (before : World) (status : ℕ) (after : World) : Type 0 where
   pub number : status ≤ 8
   pub words_only : status ≡ 2 → command_of words ≡ None
-  pub no_command : command_of words ≡ None → ((status ≡ 2) ⊎ (status ≡ 6)) × IsUntouched before after
+  pub no_command : command_of words ≡ None → (status ≡ 2) ⊎ (status ≡ 6)
   pub read : status ≡ 3 → Rose before.source_failed after.source_failed
   pub unfailed : (status ≡ 3 → ⊥) → after.source_failed ≡ before.source_failed
   pub write : status ≡ 4 → Rose before.sink_failed after.sink_failed
@@ -137,7 +135,7 @@ pub record IsFolderOf (words : List (String Global)) (after : World) : Type 0 wh
   pub says : command_of words ≡ Some line
   pub started : after.started ≡ Some line.folder
 
--- The folder of the run is that of the words. Where it is another, nothing was read, changed or written.
+-- The folder of the run is that of the words. Where it is another, as where they are no command line, nothing was read, changed or written.
 abbrev pub OfFolder : List (String Global) → World → World → Type 0
 OfFolder words before after = IsFolderOf words after ⊎ IsUntouched before after
 

@@ -8,7 +8,8 @@ ghost use Rattle.root_log.specs.root_store.Crashes.{KeepsThroughCrashes};
 ghost use Rattle.root_log.specs.root_store.Shown.{HasNoMark};
 ghost use Rattle.root_log.specs.root_store.Soundness.{HasSoundParts, RootStands};
 ghost use Rattle.session.specs.Answers.{Knows, Turned};
-ghost use Rattle.session.specs.shared_store.Engines.{GoesOn, IsOpen};
+ghost use Rattle.session.specs.Lapses.{KeepsOpen};
+ghost use Rattle.session.specs.shared_store.Engines.{IsOpen};
 ghost use Rattle.session.specs.replies.Foreseen.{history};
 ghost use Rattle.mt_program.specs.Crashes.{IsGainedBy, LeavesForCrashes};
 ghost use Rattle.mt_program.specs.Endings.{MetNoDamage};
@@ -85,7 +86,7 @@ pub fn serve<F: Dir, R: Arm<Dir = F>, D: Disk<Arm = R>, A: Annals, K: Sink, G: G
         engine.new.storage first start }
 
     // What the root is then, and what the counts of faults are.
-    ensures goes_on { GoesOn engine.old engine.new }
+    ensures keeps { KeepsOpen engine.old engine.new }
     ensures arm_later { R.failed arm.old ≤ R.failed arm.new }
     ensures sink_later { K.failed sink.old ≤ K.failed sink.new }
     ensures write_fault { result ≡ Ending.WriteFault

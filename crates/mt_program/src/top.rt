@@ -11,7 +11,8 @@ ghost use Rattle.root_log.specs.root_store.Roots.{Stands};
 ghost use Rattle.root_log.specs.root_store.Soundness.{HasSoundParts, RootStands};
 ghost use Rattle.session.specs.replies.Foreseen.{history};
 ghost use Rattle.session.specs.Answers.{Knows, Turned};
-ghost use Rattle.session.specs.shared_store.Engines.{GoesOn, IsOpen};
+ghost use Rattle.session.specs.Lapses.{KeepsOpen};
+ghost use Rattle.session.specs.shared_store.Engines.{IsOpen};
 ghost use Rattle.mt_program.specs.Crashes.{IsAsBefore, IsGainedBy, LeavesOfScript};
 ghost use Rattle.mt_program.specs.Damage.{IsDamagedRoot, WritesDamage, WritesFault, damage_line};
 ghost use Rattle.mt_program.specs.Endings.{IsEarly, LeftAtEnd, LeftBy, MetNoDamage, status_of, status_of_error, status_of_stop};
@@ -133,7 +134,7 @@ fn run_script<F: Dir, R: Arm<Dir = F>, D: Disk<Arm = R>, A: Annals, S: Source, K
     ensures write { result ≡ Ok Ending.WriteFault → Rose (K.failed sink.old) (K.failed sink.new) }
 
     // What the root is then, and what the arm's count of faults is.
-    ensures goes_on { GoesOn engine.old engine.new }
+    ensures keeps { KeepsOpen engine.old engine.new }
     ensures arm_later { R.failed arm.old ≤ R.failed arm.new }
 {
     let text = match read_all(alloc, source) {

@@ -4,7 +4,7 @@ use Rattle.mt_values.specs.Annals.{Told}
 use Rattle.mt_values.specs.Script.{statements_of}
 use Rattle.session.specs.replies.Foreseen.{history}
 use Rattle.session.specs.Answers.{Knows}
-use Rattle.session.specs.shared_store.Engines.{GoesOn}
+use Rattle.session.specs.Lapses.{KeepsOpen}
 use Rattle.mt_program.specs.Courses.{Item}
 use Rattle.mt_program.specs.Serving.{Output, Progress, Served}
 use Rattle.mt_program.specs.Crashes.{IsGainedBy}
@@ -22,7 +22,7 @@ invariant-statements g l =
     let progress : Progress = record { script = l.script; at = l.at; tally = l.tally } in
     let output : Output = record { before = g.K.Sink.written l.initial.sink; after = g.K.Sink.written l.sink } in
     record {
-      goes_on : GoesOn l.initial.engine l.engine;
+      goes_on : KeepsOpen l.initial.engine l.engine;
       free : HasNoMark l.engine.store;
       tells : arm_tells l.arm ≡ arm_tells l.initial.arm;
       served : (kept : Told) → arm_tells l.initial.arm ≡ true → Knows files kept l.initial.engine → RootStands l.initial.engine.storage.disk (history kept)

@@ -74,9 +74,13 @@ returns-clause-leaves g c = λ kept names script told is stands tells left.
     let core = stands_opened c.in-Ok.store c.args.opened files _ _ names (history kept) c.in-Ok.ensures.opens is stands in
     let end = c.run_script-end.new.engine in
     let full = has_greatest end.store in
+    let low = c.requires.opened in
+    let later = c.in-Ok.ensures.disk.later in
+    let ready = open_root files root store here was.store was.storage
+    (ready_reopened c.in-Ok.store c.args.opened here.failed here.disk (λ names is. c.in-Ok.ensures.names names (sym c.in-Ok.ensures.disk.told ∙ is)) (λ names is. c.in-Ok.ensures.shown names (sym c.in-Ok.ensures.disk.told ∙ is)) c.in-Ok.ensures.sound (omega (arith, low, later)) c.requires.below) in
     record {
       full = full;
-      only = λ is names there. shows_full end.store end.storage.failed names end.storage.disk c.run_script-end.ensures.goes_on.left is (ap (λ (x : Storage). x.disk) c.into_outside-disk.ensures.storage ∙ there);
+      only = λ is names there. shows_full end.store end.storage.failed names end.storage.disk (c.run_script-end.ensures.keeps.ready ready) is (ap (λ (x : Storage). x.disk) c.into_outside-disk.ensures.storage ∙ there);
       left = left_as c.run_script-end.result kept script output (g.D.Arm.Arm.failed c.run_script-end.new.arm) full root.store.opened c.args.opened root.storage.disk (g.D.Disk.told c.args.disk) end.storage _
           (ap (λ x. x.opened) was.store) (ap (λ (x : Storage). x.disk) was.storage ∙ c.in-Ok.ensures.disk.told) c.into_outside-disk.ensures.storage
           (c.run_script-end.ensures.leaves kept script (c.in-Ok.ensures.disk.tells ∙ tells) (knows_root files root store here was.store was.storage kept told core) (stands_root files root store here was.store was.storage kept settled) left);

@@ -1,7 +1,8 @@
 use Rattle.std.proofs.Common.{◌∙◌, ◌<◌, ◌^◌, sym, subst, List, ℕ, length}
 use Rattle.mt_program.specs.Endings.{IsEarly}
 use Rattle.mt_program.specs.Serving.{Output, ServedBy, stretch_of}
-use Rattle.mt_program.proofs.Crashing.{stays_open, unread}
+use Rattle.session.proofs.Leaving.{keeps_itself}
+use Rattle.mt_program.proofs.Crashing.{unread}
 use Rattle.mt_program.proofs.Heading.{all_read, nothing_left, stop_early, stop_undamaged, told_stop}
 use Rattle.mt_program.proofs.ServedScripts.{turned}
 use Rattle.mt_program.proofs.top.run_script.Goals as goal
@@ -13,8 +14,8 @@ returns-in-Err-clause-early g c = subst IsEarly (sym c.failed_reading.ensures) (
 pub returns-in-Err-clause-undamaged : goal.returns-in-Err-clause-undamaged
 returns-in-Err-clause-undamaged g c = λ tells held bad. stop_undamaged c.in-Err.stop (sym c.failed_reading.ensures ∙ bad)
 
-pub returns-in-Err-clause-goes_on : goal.returns-in-Err-clause-goes_on
-returns-in-Err-clause-goes_on g c = stays_open c.args.engine.now c.requires.open
+pub returns-in-Err-clause-keeps : goal.returns-in-Err-clause-keeps
+returns-in-Err-clause-keeps g c = keeps_itself c.args.engine.now
 
 -- it was served
 pub returns-clause-leaves : goal.returns-clause-leaves
