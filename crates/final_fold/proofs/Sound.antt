@@ -1,5 +1,5 @@
 -- What is told of parts that hold rows is no damage.
-use Rattle.std.proofs.Common.{◌≡◌, ℕ, ◌<◌, Bool, List, [], ◌∷◌, Option, refl, sym, ap, ◌∙◌, subst, length, slice_get, arith, Some}
+use Rattle.std.proofs.Common.{◌≡◌, ℕ, ◌<◌, Bool, List, [], ◌∷◌, Option, refl, sym, ap, ◌∙◌, length, slice_get, arith, Some}
 use Rattle.std.specs.List.{cons_option}
 use Rattle.std.proofs.lemmas.List.{length-map}
 use Rattle.std.proofs.lemmas.List.Elements.{All-cons, All-nil}

@@ -4,7 +4,6 @@ use Rattle.std.proofs.lemmas.List.FromFn.{length-range_with_len}
 use Rattle.mt_values.specs.Grid.{Cells}
 use Rattle.row_merge.specs.part_writer.declared.loaded.Loaded.{Loaded}
 use Rattle.row_merge.proofs.PartReaderChosenItems.{chosen_length}
-use Rattle.row_merge.specs.part_reader.Faults.{IsNoDamage}
 use Rattle.row_merge.proofs.PartReaderGaining.{handed_on}
 use Rattle.row_merge.proofs.PartReaderHolding.{holds_at}
 use Rattle.final_fold.specs.Matches.{ExplainsAsked}

@@ -9,8 +9,7 @@ use Rattle.mt_values.specs.Grid.{Cells, column_of}
 use Rattle.mt_values.specs.Schemas.{column_types}
 use Rattle.mt_values.specs.Tests.{eval}
 use Rattle.row_merge.specs.column_file.Spellings.{with_values}
-use Rattle.row_merge.specs.part_reader.Faults.{IsNoDamage}
-use Rattle.row_merge.proofs.PartReaderGaining.{handed_on, read_all, read_more, rest_more}
+use Rattle.row_merge.proofs.PartReaderGaining.{read_all, read_more, rest_more}
 use Rattle.row_merge.proofs.PartReaderHolding.{each_typed, type_there}
 use Rattle.final_fold.specs.Asked.{chosen_rows, met_rows}
 use Rattle.final_fold.specs.Matches.{count_true}

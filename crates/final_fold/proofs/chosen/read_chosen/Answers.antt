@@ -3,7 +3,7 @@ use Rattle.std.proofs.lemmas.List.{length-map}
 use Rattle.mt_values.specs.declared.schema.Column.{Column}
 use Rattle.mt_values.specs.Grid.{AreRowsOf, Cells, Grid, rows_of}
 use Rattle.mt_values.specs.Schemas.{column_types}
-use Rattle.row_merge.specs.part_reader.Faults.{ExplainsAt, IsNoDamage}
+use Rattle.row_merge.specs.part_reader.Faults.{ExplainsAt}
 use Rattle.row_merge.specs.part_reader.Granules.{ExplainsChosen, column_in}
 use Rattle.row_merge.proofs.PartReaderCutRows.{empty_even, explained_at, lent_back}
 use Rattle.row_merge.proofs.PartReaderGaining.{handed_on}

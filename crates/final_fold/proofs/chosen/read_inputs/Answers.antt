@@ -1,16 +1,14 @@
-use Rattle.std.proofs.Common.{◌≡◌, ◌∙◌, [], Bool, List, Some, ap, arith, get_or, length, refl, slice_get, subst, sym}
+use Rattle.std.proofs.Common.{◌≡◌, ◌∙◌, [], Some, ap, arith, get_or, length, refl, slice_get, sym}
 use Rattle.std.proofs.lemmas.List.{take_all}
 use Rattle.std.proofs.lemmas.Option.{slice_get-get_or, slice_get_read}
 use Rattle.mt_outside.proofs.LeftArms.{arm_as, arm_calm, arm_then}
-use Rattle.row_merge.specs.column_file.Marks.{granules}
 use Rattle.mt_values.specs.Grid.{AreRowsOf}
 use Rattle.mt_values.specs.Schemas.{column_types}
-use Rattle.mt_values.specs.Values.{Row}
 use Rattle.row_merge.specs.part_reader.Granules.{chosen_of}
 use Rattle.row_merge.specs.part_reader.Parts.{PartHolds}
 use Rattle.final_fold.specs.Folded.{chosen_inputs}
 use Rattle.final_fold.proofs.PartitionRuns.{zip_many}
-use Rattle.final_fold.proofs.Scanning.{part_at, zip_at}
+use Rattle.final_fold.proofs.Scanning.{part_at}
 use Rattle.final_fold.proofs.WholeColumns.{chosen_many, chosen_next, inputs_next, typed_next}
 use Rattle.final_fold.proofs.chosen.read_inputs.Goals as goal
 use Rattle.final_fold.proofs.chosen.read_inputs.Goals.{After-as_slice-own}

@@ -2,12 +2,8 @@ use Rattle.std.proofs.Common.{◌≡◌, ◌+◌, ◌-◌, ◌∙◌, [], All, a
 use Rattle.std.proofs.lemmas.List.{take_all}
 use Rattle.std.proofs.lemmas.Option.{slice_get-get_or}
 use Rattle.mt_outside.proofs.LeftArms.{arm_calm}
-use Rattle.row_merge.specs.column_file.Marks.{granules}
 use Rattle.mt_values.specs.Grid.{Cells}
-use Rattle.table_core.specs.part_name.declared.part.PartName.{PartName}
 use Rattle.row_merge.specs.part_reader.declared.reading.Part.{Part}
-use Rattle.row_merge.specs.part_reader.declared.reading.PartFault.{PartFault}
-use Rattle.row_merge.specs.part_reader.Faults.{IsNoDamage}
 use Rattle.row_merge.specs.part_reader.Parts.{PartHolds}
 use Rattle.row_merge.proofs.PartReaderGaining.{handed_on}
 use Rattle.row_merge.specs.part_set.declared.kept.Kept.{Kept}

@@ -4,7 +4,7 @@ use Rattle.mt_base.specs.declared.name.FileId.TheVariants as file
 use Rattle.mt_values.specs.Grid.{Cells}
 use Rattle.mt_values.specs.Schemas.{column_types}
 use Rattle.mt_values.specs.Values.{Row}
-use Rattle.row_merge.specs.part_reader.Faults.{ExplainsEach, IsNoDamage}
+use Rattle.row_merge.specs.part_reader.Faults.{ExplainsEach}
 use Rattle.row_merge.specs.part_reader.Granules.{ExplainsChosen, column_in}
 use Rattle.row_merge.specs.part_reader.Parts.{HoldsAt, PartHolds, with_columns}
 use Rattle.row_merge.proofs.PartReaderCutRows.{empty_even}
