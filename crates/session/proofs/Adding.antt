@@ -34,7 +34,7 @@ module _ {F : Type 0} (table : List ℕ) where
 
   each_then : (xs ys before mid after : List (Kept (Part F))) → AddsEach xs before mid → AddsEach ys mid after → AddsEach (xs ++ ys) before after
   each_then [] ys before mid after first next = subst (λ (ks : List (Kept (Part F))). AddsEach ys ks after) first next
-  each_then (x ∷ xs) ys before mid after first next = (first.0, first.1.0, each_then xs ys first.0 mid after first.1.1 next)
+  each_then (x ∷ xs) ys before mid after first next = (first.0, first.1, each_then xs ys first.0 mid after first.2 next)
 
   -- some after others
   pub adds_then : (a b c : CoreStore F) → AddsParts table a b → AddsParts table b c → AddsParts table a c

@@ -65,10 +65,10 @@ pinned_sound files_of snap text reply sound t = read_sound files_of snap text.is
 select_sound : {F : Type 0} (files_of : F → Option Files) (store : CoreStore F) (text : SelectText) (reply : List ℕ) → HasSoundParts files_of store → TellsOfSelect files_of store text reply → ⊥
 select_sound files_of store text reply held t =
     let snap = t.0 in
-    let pinned = t.1.0 in
+    let pinned = t.1 in
     pinned_sound files_of snap text reply
     (subst (λ (ks : List (Kept (Part _))). All (HoldsRows files_of snap.schema) ks) (sym pinned.parts)
-    (subst (λ (s : Schema). All (HoldsRows files_of s) (parts_of store.set text.table)) (sym pinned.schema) (held text.table pinned.made pinned.there))) t.1.1
+    (subst (λ (s : Schema). All (HoldsRows files_of s) (parts_of store.set text.table)) (sym pinned.schema) (held text.table pinned.made pinned.there))) t.2
 
 table_sound : {F : Type 0} (files_of : F → Option Files) (store : CoreStore F) (table reply : List ℕ) → HasSoundParts files_of store → TellsOfTable files_of store table reply → ⊥
 table_sound {F} files_of store table reply held t =

@@ -267,8 +267,8 @@ module _ {F : Type 0} (was now : CoreStore F) (table : List ℕ) (partitions : L
 -- ---- what an OPTIMIZE names
 
 module _ {F : Type 0} (S : Type 0) (files_of : F → Option Files) (known : Type 0) (was now : Opened F) (arm_was arm : ℕ) (text : OptimizeText) where
-  abbrev Whole : Partition → Result (Option (List ℕ)) NoMemory → Type 0
-  Whole p result = MergesWhole S files_of known text.table p (lapse was now arm_was arm) result
+  abbrev MergesOne : Partition → Result (Option (List ℕ)) NoMemory → Type 0
+  MergesOne p result = MergesWhole S files_of known text.table p (lapse was now arm_was arm) result
 
   abbrev Named : Result (Option (List ℕ)) NoMemory → Type 0
   Named result = MergesNamed S files_of known text (lapse was now arm_was arm) result
@@ -294,7 +294,7 @@ module _ {F : Type 0} (S : Type 0) (files_of : F → Option Files) (known : Type
     is_named : (t : List ℕ) (q : Partition) → (t ≡ text.table) × (q ≡ p) → IsNamed text t q
     is_named t q w = (w.0, subst (λ (x : Partition). IfSome text.partition (λ i. IsPartition x × (partition_text x ≡ i))) (sym w.1) (subst (λ (o : Option (List ℕ)). IfSome o (λ i. IsPartition p × (partition_text p ≡ i))) (sym named) spelled))
 
-    pub named_one : ((q : Partition) → IsNamed text text.table q → q ≡ p) → (result : Result (Option (List ℕ)) NoMemory) → Whole p result → Named result
+    pub named_one : ((q : Partition) → IsNamed text text.table q → q ≡ p) → (result : Result (Option (List ℕ)) NoMemory) → MergesOne p result → Named result
     named_one only result whole = record {
       beside = beside_more (λ t q. (t ≡ text.table) × (q ≡ p)) (IsNamed text) was.store now.store is_named whole.0;
       ends = ends_by (IsFinalAt was.store now.store text.table p) ((parts_at now.store text.table p ≡ parts_at was.store text.table p) × StopsWhole S files_of known text.table p (lapse was now arm_was arm) result) _ _

@@ -1,4 +1,4 @@
-use Rattle.std.proofs.Common.{Option, Some, Ok, Err, true, refl, sym, subst}
+use Rattle.std.proofs.Common.{◌≡◌, Option, Some, Ok, Err, true, refl, sym, subst}
 use Rattle.shared_store.specs.declared.work.TakeFault.{TakeFault}
 use Rattle.shared_store.specs.declared.work.Work.{Work}
 use Rattle.shared_store.specs.Works.{TakesWhole}
@@ -13,7 +13,7 @@ pub returns-in_default-clause-merges : goal.returns-in_default-clause-merges
 returns-in_default-clause-merges g c = merges_ended g.F.Dir.files _ c.args.engine.now (g.R.Arm.failed c.args.arm.now) _ _
 
 pub returns-in_default-clause-whole : goal.returns-in_default-clause-whole
-returns-in_default-clause-whole g c = whole_ended _ g.F.Dir.files _ c.args.engine.now c.args.engine.now _ _ c.args.table.now c.args.partition _ refl refl
+returns-in_default-clause-whole g c = whole_ended g.row.R-Stage.Denot g.F.Dir.files (g.R.Arm.tells c.args.arm.now ≡ true) c.args.engine.now c.args.engine.now (g.R.Arm.failed c.args.arm.now) (g.R.Arm.failed c.args.arm.now) c.args.table.now c.args.partition _ refl refl
 
 -- no part bears a mark
 pub unreachable-requires : goal.unreachable-requires
@@ -27,13 +27,13 @@ returns-in-Ok-None-clause-merges g c = merges_stays g.F.Dir.files _ c.args.engin
 pub returns-in-Ok-None-clause-whole : goal.returns-in-Ok-None-clause-whole
 returns-in-Ok-None-clause-whole g c =
     let none = none_of_whole _ _ _ _ c.in-Ok-None.field-0 c.in-Ok-None.field-0-is c.in-Ok-None.ensures.takes in
-    whole_none _ g.F.Dir.files _ c.args.engine.now c.take_all.new.self _ _ c.args.table.now c.args.partition none.1 none.0
+    whole_none g.row.R-Stage.Denot g.F.Dir.files (g.R.Arm.tells c.args.arm.now ≡ true) c.args.engine.now c.take_all.new.self (g.R.Arm.failed c.args.arm.now) (g.R.Arm.failed c.args.arm.now) c.args.table.now c.args.partition none.1 none.0
 
 pub returns-in-Err-NoMemory-clause-merges : goal.returns-in-Err-NoMemory-clause-merges
 returns-in-Err-NoMemory-clause-merges g c = ended_stays g.F.Dir.files _ c.args.engine.now c.take_all.new.self (g.R.Arm.failed c.args.arm.now) _ _ (want_of_whole _ _ _ _ c.in-Err-NoMemory.field-0 c.in-Err-NoMemory.field-0-is c.in-Err-NoMemory.ensures.takes)
 
 pub returns-in-Err-NoMemory-clause-whole : goal.returns-in-Err-NoMemory-clause-whole
-returns-in-Err-NoMemory-clause-whole g c = whole_ended _ g.F.Dir.files _ c.args.engine.now c.take_all.new.self _ _ c.args.table.now c.args.partition _ (want_of_whole _ _ _ _ c.in-Err-NoMemory.field-0 c.in-Err-NoMemory.field-0-is c.in-Err-NoMemory.ensures.takes) refl
+returns-in-Err-NoMemory-clause-whole g c = whole_ended g.row.R-Stage.Denot g.F.Dir.files (g.R.Arm.tells c.args.arm.now ≡ true) c.args.engine.now c.take_all.new.self (g.R.Arm.failed c.args.arm.now) (g.R.Arm.failed c.args.arm.now) c.args.table.now c.args.partition _ (want_of_whole _ _ _ _ c.in-Err-NoMemory.field-0 c.in-Err-NoMemory.field-0-is c.in-Err-NoMemory.ensures.takes) refl
 
 -- all parts are
 pub merge_work-requires-clause-some : goal.merge_work-requires-clause-some

@@ -28,8 +28,8 @@ loop-partition-preserved g c =
     record {
       merges = merges_then g.F.Dir.files _ c.args.engine.now here now (g.R.Arm.failed c.args.arm.now) x y true before.merges (Ok None) step;
       tells = c.merge_partition.ensures.tells ∙ before.tells;
-      final = done_at _ g.F.Dir.files _ c.args.engine.now here now x y c.args.table.now c.args.partitions.now c.loop-partition.partition-index _ c.loop-partition-test.true c.requires.ascend before.final before.merges.adds.mutations_are before.merges.adds.tables
-          (whole_found _ g.F.Dir.files _ (lapse here now x y) c.args.table.now _ c.in-Ok-None.field-0 None c.in-Ok-None.field-0-is c.in-Ok-None.ensures.whole);
+      final = done_at g.row.R-Stage.Denot g.F.Dir.files (g.R.Arm.tells c.loop-partition.arm ≡ true) c.args.engine.now here now x y c.args.table.now c.args.partitions.now c.loop-partition.partition-index _ c.loop-partition-test.true c.requires.ascend before.final before.merges.adds.mutations_are before.merges.adds.tables
+          (whole_found g.row.R-Stage.Denot g.F.Dir.files (g.R.Arm.tells c.loop-partition.arm ≡ true) (lapse here now x y) c.args.table.now _ c.in-Ok-None.field-0 None c.in-Ok-None.field-0-is c.in-Ok-None.ensures.whole);
     }
 
 -- one was refused
@@ -52,9 +52,9 @@ returns-in-Ok-Some-clause-each g c =
     let now = c.merge_partition.new.engine in
     let x = g.R.Arm.failed c.loop-partition.arm in
     let y = g.R.Arm.failed c.merge_partition.new.arm in
-    let found = whole_found g.R.Arm.Stage files (g.R.Arm.tells c.loop-partition.arm ≡ true) (lapse here now x y) c.args.table.now _ c.in-Ok-Some.field-0 (Some c.in-Ok-Some.refused) c.in-Ok-Some.field-0-is c.in-Ok-Some.ensures.whole in
-    stopped_at g.R.Arm.Stage files (g.R.Arm.tells c.args.arm.now ≡ true) c.args.engine.now here now (g.R.Arm.failed c.args.arm.now) y c.args.table.now c.args.partitions.now c.loop-partition.partition-index _ c.loop-partition-test.true c.requires.ascend before.final before.merges.adds.mutations_are before.merges.adds.tables c.in-Ok-Some.refused
-    (whole_since g.R.Arm.Stage files c.loop-partition.arm c.args.arm.now g.R.Arm.tells here now x (g.R.Arm.failed c.args.arm.now) y c.args.table.now _ before.tells before.merges.ends.1 (Ok (Some c.in-Ok-Some.refused)) found)
+    let found = whole_found g.row.R-Stage.Denot files (g.R.Arm.tells c.loop-partition.arm ≡ true) (lapse here now x y) c.args.table.now _ c.in-Ok-Some.field-0 (Some c.in-Ok-Some.refused) c.in-Ok-Some.field-0-is c.in-Ok-Some.ensures.whole in
+    stopped_at g.row.R-Stage.Denot files (g.R.Arm.tells c.args.arm.now ≡ true) c.args.engine.now here now (g.R.Arm.failed c.args.arm.now) y c.args.table.now c.args.partitions.now c.loop-partition.partition-index _ c.loop-partition-test.true c.requires.ascend before.final before.merges.adds.mutations_are before.merges.adds.tables c.in-Ok-Some.refused
+    (whole_since g.row.R-Stage.Denot files c.loop-partition.arm c.args.arm.now g.R.Arm.tells here now x (g.R.Arm.failed c.args.arm.now) y c.args.table.now _ before.tells before.merges.ends.1 (Ok (Some c.in-Ok-Some.refused)) found)
 
 -- memory ran out
 pub returns-in-Err-clause-merges : goal.returns-in-Err-clause-merges
@@ -75,8 +75,8 @@ returns-in-Err-clause-each g c =
     let now = c.merge_partition.new.engine in
     let x = g.R.Arm.failed c.loop-partition.arm in
     let y = g.R.Arm.failed c.merge_partition.new.arm in
-    ended_at g.R.Arm.Stage files (g.R.Arm.tells c.args.arm.now ≡ true) c.args.engine.now here now (g.R.Arm.failed c.args.arm.now) y c.args.table.now c.args.partitions.now c.loop-partition.partition-index _ c.loop-partition-test.true c.requires.ascend before.final before.merges.adds.mutations_are before.merges.adds.tables
-    c.in-Err.field-0 (whole_since g.R.Arm.Stage files c.loop-partition.arm c.args.arm.now g.R.Arm.tells here now x (g.R.Arm.failed c.args.arm.now) y c.args.table.now _ before.tells before.merges.ends.1 (Err c.in-Err.field-0) c.in-Err.ensures.whole)
+    ended_at g.row.R-Stage.Denot files (g.R.Arm.tells c.args.arm.now ≡ true) c.args.engine.now here now (g.R.Arm.failed c.args.arm.now) y c.args.table.now c.args.partitions.now c.loop-partition.partition-index _ c.loop-partition-test.true c.requires.ascend before.final before.merges.adds.mutations_are before.merges.adds.tables
+    c.in-Err.field-0 (whole_since g.row.R-Stage.Denot files c.loop-partition.arm c.args.arm.now g.R.Arm.tells here now x (g.R.Arm.failed c.args.arm.now) y c.args.table.now _ before.tells before.merges.ends.1 (Err c.in-Err.field-0) c.in-Err.ensures.whole)
 
 -- all were done
 pub returns-clause-each : goal.returns-clause-each

@@ -50,7 +50,7 @@ returns-in_default-clause-whole g c = λ whole.
     let here = c.args.engine.now in
     let arm = g.R.Arm.failed c.args.arm.now in
     let none = none_there _ (table_at here.store c.args.text.now.table) c.in_default.is c.in_ok-partitions.ensures.none in
-    none_finished g.R.Arm.Stage g.F.Dir.files _ c.args.text.now (lapse here c.partitions_there.new.engine arm arm) c.no_table_line.result
+    none_finished g.row.R-Stage.Denot g.F.Dir.files (g.R.Arm.tells c.args.arm.now ≡ true) c.args.text.now (lapse here c.partitions_there.new.engine arm arm) c.no_table_line.result
     (IfOk-weaker c.no_table_line.result _ _ (λ line is. (refusal.NoTable c.args.text.now.table, is)) c.no_table_line.ensures) none c.partitions_there.ensures.stays
 
 pub returns-in_default-clause-leaves : goal.returns-in_default-clause-leaves
@@ -67,7 +67,7 @@ returns-in_err-partitions-clause-answers g c = λ kept tells knows.
 pub returns-in_err-partitions-clause-whole : goal.returns-in_err-partitions-clause-whole
 returns-in_err-partitions-clause-whole g c = λ whole.
     let arm = g.R.Arm.failed c.args.arm.now in
-    never_finished g.R.Arm.Stage g.F.Dir.files _ c.args.text.now (lapse c.args.engine.now c.partitions_there.new.engine arm arm) c.from_residual.result c.from_residual.ensures.0 c.partitions_there.ensures.stays
+    never_finished g.row.R-Stage.Denot g.F.Dir.files (g.R.Arm.tells c.args.arm.now ≡ true) c.args.text.now (lapse c.args.engine.now c.partitions_there.new.engine arm arm) c.from_residual.result c.from_residual.ensures.0 c.partitions_there.ensures.stays
 
 pub returns-in_err-partitions-clause-leaves : goal.returns-in_err-partitions-clause-leaves
 returns-in_err-partitions-clause-leaves g c = leaves_same g.F.Dir.files _ c.args.engine.now c.partitions_there.new.engine c.partitions_there.ensures.stays
@@ -95,12 +95,12 @@ returns-in-Ok-None-clause-accounts g c =
 
 pub returns-in-Ok-None-clause-beside : goal.returns-in-Ok-None-clause-beside
 returns-in-Ok-None-clause-beside g c =
-    (named_found g.R.Arm.Stage g.F.Dir.files (g.R.Arm.tells c.args.arm.now ≡ true) c.args.text.now c.args.engine.now c.partitions_there.new.engine c.merge_as_asked.new.engine (g.R.Arm.failed c.args.arm.now) (g.R.Arm.failed c.merge_as_asked.new.arm) c.in-Ok-None.field-0 None c.in-Ok-None.field-0-is c.partitions_there.ensures.stays c.in-Ok-None.ensures.named).beside
+    (named_found g.row.R-Stage.Denot g.F.Dir.files (g.R.Arm.tells c.args.arm.now ≡ true) c.args.text.now c.args.engine.now c.partitions_there.new.engine c.merge_as_asked.new.engine (g.R.Arm.failed c.args.arm.now) (g.R.Arm.failed c.merge_as_asked.new.arm) c.in-Ok-None.field-0 None c.in-Ok-None.field-0-is c.partitions_there.ensures.stays c.in-Ok-None.ensures.named).beside
 
 pub returns-in-Ok-None-clause-whole : goal.returns-in-Ok-None-clause-whole
 returns-in-Ok-None-clause-whole g c = λ whole.
-    all_finished g.R.Arm.Stage g.F.Dir.files (g.R.Arm.tells c.args.arm.now ≡ true) c.args.text.now (lapse c.args.engine.now c.merge_as_asked.new.engine (g.R.Arm.failed c.args.arm.now) (g.R.Arm.failed c.merge_as_asked.new.arm)) c.accepted.result
-    ((named_found g.R.Arm.Stage g.F.Dir.files (g.R.Arm.tells c.args.arm.now ≡ true) c.args.text.now c.args.engine.now c.partitions_there.new.engine c.merge_as_asked.new.engine (g.R.Arm.failed c.args.arm.now) (g.R.Arm.failed c.merge_as_asked.new.arm) c.in-Ok-None.field-0 None c.in-Ok-None.field-0-is c.partitions_there.ensures.stays c.in-Ok-None.ensures.named).ends whole)
+    all_finished g.row.R-Stage.Denot g.F.Dir.files (g.R.Arm.tells c.args.arm.now ≡ true) c.args.text.now (lapse c.args.engine.now c.merge_as_asked.new.engine (g.R.Arm.failed c.args.arm.now) (g.R.Arm.failed c.merge_as_asked.new.arm)) c.accepted.result
+    ((named_found g.row.R-Stage.Denot g.F.Dir.files (g.R.Arm.tells c.args.arm.now ≡ true) c.args.text.now c.args.engine.now c.partitions_there.new.engine c.merge_as_asked.new.engine (g.R.Arm.failed c.args.arm.now) (g.R.Arm.failed c.merge_as_asked.new.arm) c.in-Ok-None.field-0 None c.in-Ok-None.field-0-is c.partitions_there.ensures.stays c.in-Ok-None.ensures.named).ends whole)
 
 pub returns-in-Ok-None-clause-leaves : goal.returns-in-Ok-None-clause-leaves
 returns-in-Ok-None-clause-leaves g c =
@@ -116,15 +116,15 @@ pub returns-in-Ok-Some-clause-accounts : goal.returns-in-Ok-Some-clause-accounts
 returns-in-Ok-Some-clause-accounts g c =
     refused_accounts g.F.Dir.files c.args.text.now (g.R.Arm.tells c.args.arm.now ≡ true) c.args.engine.now c.merge_as_asked.new.engine (g.R.Arm.failed c.args.arm.now) (g.R.Arm.failed c.merge_as_asked.new.arm) (some_there _ c.in-Some.partitions (table_at c.args.engine.now.store c.args.text.now.table) c.in-Some.is c.in_ok-partitions.ensures.none) c.in-Ok-Some.reply
     (merges_found g.F.Dir.files (g.R.Arm.tells c.args.arm.now ≡ true) c.args.engine.now c.partitions_there.new.engine c.merge_as_asked.new.engine (g.R.Arm.failed c.args.arm.now) (g.R.Arm.failed c.merge_as_asked.new.arm) c.args.text.now.whole c.in-Ok-Some.field-0 (Some c.in-Ok-Some.reply) c.in-Ok-Some.field-0-is c.partitions_there.ensures.stays c.in-Ok-Some.ensures.merges)
-    (TellsOfTable g.F.Dir.files c.args.engine.now.store c.args.text.now.table) (named_found g.R.Arm.Stage g.F.Dir.files (g.R.Arm.tells c.args.arm.now ≡ true) c.args.text.now c.args.engine.now c.partitions_there.new.engine c.merge_as_asked.new.engine (g.R.Arm.failed c.args.arm.now) (g.R.Arm.failed c.merge_as_asked.new.arm) c.in-Ok-Some.field-0 (Some c.in-Ok-Some.reply) c.in-Ok-Some.field-0-is c.partitions_there.ensures.stays c.in-Ok-Some.ensures.named).ends.1
+    (TellsOfTable g.F.Dir.files c.args.engine.now.store c.args.text.now.table) (named_found g.row.R-Stage.Denot g.F.Dir.files (g.R.Arm.tells c.args.arm.now ≡ true) c.args.text.now c.args.engine.now c.partitions_there.new.engine c.merge_as_asked.new.engine (g.R.Arm.failed c.args.arm.now) (g.R.Arm.failed c.merge_as_asked.new.arm) c.in-Ok-Some.field-0 (Some c.in-Ok-Some.reply) c.in-Ok-Some.field-0-is c.partitions_there.ensures.stays c.in-Ok-Some.ensures.named).ends.1
 
 pub returns-in-Ok-Some-clause-beside : goal.returns-in-Ok-Some-clause-beside
 returns-in-Ok-Some-clause-beside g c =
-    (named_found g.R.Arm.Stage g.F.Dir.files (g.R.Arm.tells c.args.arm.now ≡ true) c.args.text.now c.args.engine.now c.partitions_there.new.engine c.merge_as_asked.new.engine (g.R.Arm.failed c.args.arm.now) (g.R.Arm.failed c.merge_as_asked.new.arm) c.in-Ok-Some.field-0 (Some c.in-Ok-Some.reply) c.in-Ok-Some.field-0-is c.partitions_there.ensures.stays c.in-Ok-Some.ensures.named).beside
+    (named_found g.row.R-Stage.Denot g.F.Dir.files (g.R.Arm.tells c.args.arm.now ≡ true) c.args.text.now c.args.engine.now c.partitions_there.new.engine c.merge_as_asked.new.engine (g.R.Arm.failed c.args.arm.now) (g.R.Arm.failed c.merge_as_asked.new.arm) c.in-Ok-Some.field-0 (Some c.in-Ok-Some.reply) c.in-Ok-Some.field-0-is c.partitions_there.ensures.stays c.in-Ok-Some.ensures.named).beside
 
 pub returns-in-Ok-Some-clause-whole : goal.returns-in-Ok-Some-clause-whole
 returns-in-Ok-Some-clause-whole g c =
-    λ whole. inr ((merges_found g.F.Dir.files (g.R.Arm.tells c.args.arm.now ≡ true) c.args.engine.now c.partitions_there.new.engine c.merge_as_asked.new.engine (g.R.Arm.failed c.args.arm.now) (g.R.Arm.failed c.merge_as_asked.new.arm) c.args.text.now.whole c.in-Ok-Some.field-0 (Some c.in-Ok-Some.reply) c.in-Ok-Some.field-0-is c.partitions_there.ensures.stays c.in-Ok-Some.ensures.merges).ends.said, inl ((named_found g.R.Arm.Stage g.F.Dir.files (g.R.Arm.tells c.args.arm.now ≡ true) c.args.text.now c.args.engine.now c.partitions_there.new.engine c.merge_as_asked.new.engine (g.R.Arm.failed c.args.arm.now) (g.R.Arm.failed c.merge_as_asked.new.arm) c.in-Ok-Some.field-0 (Some c.in-Ok-Some.reply) c.in-Ok-Some.field-0-is c.partitions_there.ensures.stays c.in-Ok-Some.ensures.named).ends.0 whole))
+    λ whole. inr ((merges_found g.F.Dir.files (g.R.Arm.tells c.args.arm.now ≡ true) c.args.engine.now c.partitions_there.new.engine c.merge_as_asked.new.engine (g.R.Arm.failed c.args.arm.now) (g.R.Arm.failed c.merge_as_asked.new.arm) c.args.text.now.whole c.in-Ok-Some.field-0 (Some c.in-Ok-Some.reply) c.in-Ok-Some.field-0-is c.partitions_there.ensures.stays c.in-Ok-Some.ensures.merges).ends.said, inl ((named_found g.row.R-Stage.Denot g.F.Dir.files (g.R.Arm.tells c.args.arm.now ≡ true) c.args.text.now c.args.engine.now c.partitions_there.new.engine c.merge_as_asked.new.engine (g.R.Arm.failed c.args.arm.now) (g.R.Arm.failed c.merge_as_asked.new.arm) c.in-Ok-Some.field-0 (Some c.in-Ok-Some.reply) c.in-Ok-Some.field-0-is c.partitions_there.ensures.stays c.in-Ok-Some.ensures.named).ends.0 whole))
 
 pub returns-in-Ok-Some-clause-leaves : goal.returns-in-Ok-Some-clause-leaves
 returns-in-Ok-Some-clause-leaves g c =
@@ -144,11 +144,11 @@ returns-clause-accounts g c =
 
 pub returns-clause-beside : goal.returns-clause-beside
 returns-clause-beside g c =
-    (subst (λ (o : Opened _). MergesNamed g.R.Arm.Stage g.F.Dir.files (g.R.Arm.tells c.args.arm.now ≡ true) c.args.text.now (lapse o c.merge_as_asked.new.engine (g.R.Arm.failed c.args.arm.now) (g.R.Arm.failed c.merge_as_asked.new.arm)) (Err c.in-Err.field-0)) c.partitions_there.ensures.stays c.in-Err.ensures.named).beside
+    (subst (λ (o : Opened _). MergesNamed g.row.R-Stage.Denot g.F.Dir.files (g.R.Arm.tells c.args.arm.now ≡ true) c.args.text.now (lapse o c.merge_as_asked.new.engine (g.R.Arm.failed c.args.arm.now) (g.R.Arm.failed c.merge_as_asked.new.arm)) (Err c.in-Err.field-0)) c.partitions_there.ensures.stays c.in-Err.ensures.named).beside
 
 pub returns-clause-whole : goal.returns-clause-whole
 returns-clause-whole g c = λ whole.
-    inr (inl ((subst (λ (o : Opened _). MergesNamed g.R.Arm.Stage g.F.Dir.files (g.R.Arm.tells c.args.arm.now ≡ true) c.args.text.now (lapse o c.merge_as_asked.new.engine (g.R.Arm.failed c.args.arm.now) (g.R.Arm.failed c.merge_as_asked.new.arm)) (Err c.in-Err.field-0)) c.partitions_there.ensures.stays c.in-Err.ensures.named).ends whole))
+    inr (inl ((subst (λ (o : Opened _). MergesNamed g.row.R-Stage.Denot g.F.Dir.files (g.R.Arm.tells c.args.arm.now ≡ true) c.args.text.now (lapse o c.merge_as_asked.new.engine (g.R.Arm.failed c.args.arm.now) (g.R.Arm.failed c.merge_as_asked.new.arm)) (Err c.in-Err.field-0)) c.partitions_there.ensures.stays c.in-Err.ensures.named).ends whole))
 
 pub returns-clause-leaves : goal.returns-clause-leaves
 returns-clause-leaves g c =

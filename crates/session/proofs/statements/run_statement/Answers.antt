@@ -23,13 +23,13 @@ use Rattle.session.proofs.statements.run_statement.Goals as goal
 -- a CREATE
 pub returns-in-Ok-Create-clause-does : goal.returns-in-Ok-Create-clause-does
 returns-in-Ok-Create-clause-does g c =
-    subst (λ (st : Item). DoesAsAsked g.R.Arm.Stage g.F.Dir.files (g.R.Arm.tells c.args.arm.now ≡ true) st (lapse c.args.engine.now c.create.new.engine (g.R.Arm.failed c.args.arm.now) (g.R.Arm.failed c.create.new.arm)) c.create.result)
+    subst (λ (st : Item). DoesAsAsked g.row.R-Stage.Denot g.F.Dir.files (g.R.Arm.tells c.args.arm.now ≡ true) st (lapse c.args.engine.now c.create.new.engine (g.R.Arm.failed c.args.arm.now) (g.R.Arm.failed c.create.new.arm)) c.create.result)
     (sym (c.in-Ok-Create.is ∙ ap Ok c.in-Ok-Create.field-0-is)) c.create.ensures.parts
 
 -- an INSERT
 pub returns-in-Ok-Insert-clause-does : goal.returns-in-Ok-Insert-clause-does
 returns-in-Ok-Insert-clause-does g c =
-    subst (λ (st : Item). DoesAsAsked g.R.Arm.Stage g.F.Dir.files (g.R.Arm.tells c.args.arm.now ≡ true) st (lapse c.args.engine.now c.insert.new.engine (g.R.Arm.failed c.args.arm.now) (g.R.Arm.failed c.insert.new.arm)) c.insert.result)
+    subst (λ (st : Item). DoesAsAsked g.row.R-Stage.Denot g.F.Dir.files (g.R.Arm.tells c.args.arm.now ≡ true) st (lapse c.args.engine.now c.insert.new.engine (g.R.Arm.failed c.args.arm.now) (g.R.Arm.failed c.insert.new.arm)) c.insert.result)
     (sym (c.in-Ok-Insert.is ∙ ap Ok c.in-Ok-Insert.field-0-is)) c.insert.ensures.adds
 
 -- a SELECT
@@ -45,7 +45,7 @@ returns-in-Ok-Select-clause-answers g c = λ kept tells knows.
 
 pub returns-in-Ok-Select-clause-does : goal.returns-in-Ok-Select-clause-does
 returns-in-Ok-Select-clause-does g c =
-    subst (λ (st : Item). DoesAsAsked g.R.Arm.Stage g.F.Dir.files (g.R.Arm.tells c.args.arm.now ≡ true) st (lapse c.args.engine.now c.select.new.engine (g.R.Arm.failed c.args.arm.now) (g.R.Arm.failed c.select.new.arm)) c.select.result)
+    subst (λ (st : Item). DoesAsAsked g.row.R-Stage.Denot g.F.Dir.files (g.R.Arm.tells c.args.arm.now ≡ true) st (lapse c.args.engine.now c.select.new.engine (g.R.Arm.failed c.args.arm.now) (g.R.Arm.failed c.select.new.arm)) c.select.result)
     (sym (c.in-Ok-Select.is ∙ ap Ok c.in-Ok-Select.field-0-is)) (c.select.ensures.stays, λ kept knows. IfOk-weaker c.select.result _ _ (λ reply from. from.plain) (c.select.ensures.answers kept knows))
 
 pub returns-in-Ok-Select-clause-accounts : goal.returns-in-Ok-Select-clause-accounts
@@ -72,7 +72,7 @@ returns-in-Ok-Explain-clause-answers g c = λ kept tells knows.
 
 pub returns-in-Ok-Explain-clause-does : goal.returns-in-Ok-Explain-clause-does
 returns-in-Ok-Explain-clause-does g c =
-    subst (λ (st : Item). DoesAsAsked g.R.Arm.Stage g.F.Dir.files (g.R.Arm.tells c.args.arm.now ≡ true) st (lapse c.args.engine.now c.explain.new.engine (g.R.Arm.failed c.args.arm.now) (g.R.Arm.failed c.args.arm.now)) c.explain.result)
+    subst (λ (st : Item). DoesAsAsked g.row.R-Stage.Denot g.F.Dir.files (g.R.Arm.tells c.args.arm.now ≡ true) st (lapse c.args.engine.now c.explain.new.engine (g.R.Arm.failed c.args.arm.now) (g.R.Arm.failed c.args.arm.now)) c.explain.result)
     (sym (c.in-Ok-Explain.is ∙ ap Ok c.in-Ok-Explain.field-0-is)) (c.explain.ensures.stays, c.explain.ensures.counts)
 
 pub returns-in-Ok-Explain-clause-accounts : goal.returns-in-Ok-Explain-clause-accounts
@@ -89,7 +89,7 @@ returns-in-Ok-Explain-clause-leaves g c = leaves_same g.F.Dir.files _ c.args.eng
 -- an OPTIMIZE
 pub returns-in-Ok-Optimize-clause-does : goal.returns-in-Ok-Optimize-clause-does
 returns-in-Ok-Optimize-clause-does g c =
-    subst (λ (st : Item). DoesAsAsked g.R.Arm.Stage g.F.Dir.files (g.R.Arm.tells c.args.arm.now ≡ true) st (lapse c.args.engine.now c.optimize.new.engine (g.R.Arm.failed c.args.arm.now) (g.R.Arm.failed c.optimize.new.arm)) c.optimize.result)
+    subst (λ (st : Item). DoesAsAsked g.row.R-Stage.Denot g.F.Dir.files (g.R.Arm.tells c.args.arm.now ≡ true) st (lapse c.args.engine.now c.optimize.new.engine (g.R.Arm.failed c.args.arm.now) (g.R.Arm.failed c.optimize.new.arm)) c.optimize.result)
     (sym (c.in-Ok-Optimize.is ∙ ap Ok c.in-Ok-Optimize.field-0-is)) (c.optimize.ensures.beside, c.optimize.ensures.whole)
 
 -- a text that is no statement
@@ -107,7 +107,7 @@ returns-in-Err-clause-answers g c = λ kept tells knows.
 pub returns-in-Err-clause-does : goal.returns-in-Err-clause-does
 returns-in-Err-clause-does g c =
     let arm = g.R.Arm.failed c.args.arm.now in
-    subst (λ (st : Item). DoesAsAsked g.R.Arm.Stage g.F.Dir.files (g.R.Arm.tells c.args.arm.now ≡ true) st (lapse c.args.engine.now c.args.engine.now arm arm) c.refused.result) (sym c.in-Err.is) refl
+    subst (λ (st : Item). DoesAsAsked g.row.R-Stage.Denot g.F.Dir.files (g.R.Arm.tells c.args.arm.now ≡ true) st (lapse c.args.engine.now c.args.engine.now arm arm) c.refused.result) (sym c.in-Err.is) refl
 
 pub returns-in-Err-clause-accounts : goal.returns-in-Err-clause-accounts
 returns-in-Err-clause-accounts g c =
