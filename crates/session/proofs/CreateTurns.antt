@@ -133,8 +133,8 @@ module _ {F S : Type 0} (files_of : F → Option Files) (text : CreateText) (sch
     create_memory = by line other
       where
         by : (l : Result (List ℕ) NoMemory) → IfErr l (λ _. r.cause ≡ refused.Disk → ⊥) → OnErr l (KeepsRoot was now)
-        by (Ok reply) no = tt
-        by (Err e) no = let left = after r d in record { store_is = d.enters; disk_is = left.unchanged no; mark_is = left.mark }
+        by (Ok reply) kept = tt
+        by (Err e) kept = let left = after r d in record { store_is = d.enters; disk_is = left.unchanged kept; mark_is = left.mark }
 
     -- what comes back had no fault
     pub create_returned : entry.failed ≡ 0 → (entry_of : S → ℕ) → entry_of sealed ≡ entry.failed → IfSome r.back (λ s. entry_of s ≡ 0)

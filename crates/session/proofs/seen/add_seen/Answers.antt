@@ -12,8 +12,7 @@ use Rattle.final_fold.specs.Matches.{ExplainsMatches, matching}
 use Rattle.final_fold.specs.row_merge.MergedParts.{PartsHold}
 use Rattle.final_fold.specs.Scans.{joined_rows, rows_kept, values_at}
 use Rattle.session.specs.Selects.{ExplainsRead, IsSeen}
-use Rattle.session.proofs.Damaged.{all_hold}
-use Rattle.session.proofs.Seeing.{adds_seen, final_parts, ok_both, plain_parts, said, says_read}
+use Rattle.session.proofs.Seeing.{adds_seen, final_parts, ok_both, plain_parts}
 use Rattle.session.proofs.seen.add_seen.Goals as goal
 
 -- parts are merged by their keys
