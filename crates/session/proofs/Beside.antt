@@ -1,5 +1,5 @@
 -- Which parts a merge leaves as they were, and what becomes of all parts of a partition.
-use Rattle.std.proofs.Common.{◌≡◌, ◌≢◌, ℕ, ◌+◌, Bool, true, false, cond, List, [], ◌∷◌, ◌++◌, length, map, length-append, refl, sym, ap, ap₂, ◌∙◌, subst, inl, inr, Option, Some, None, arith}
+use Rattle.std.proofs.Common.{◌≡◌, ◌≢◌, ℕ, ◌+◌, Bool, true, false, cond, List, [], ◌∷◌, ◌++◌, length, map, length-append, refl, sym, ap, ap₂, ◌∙◌, subst, inl, inr, Option, Some, arith}
 use Rattle.std.proofs.lemmas.Bool.{false≢true}
 use Rattle.std.proofs.lemmas.List.{length-map}
 use Rattle.std.proofs.lemmas.List.Elements.{All-cons, All-head, All-map, All-nil, All-tail, filter-append}
@@ -16,7 +16,7 @@ use Rattle.shared_store.specs.part_reader.declared.reading.Part.{Part}
 use Rattle.shared_store.specs.part_set.declared.kept.Kept.{Kept}
 use Rattle.shared_store.specs.part_set.declared.run.Run.{Run}
 use Rattle.shared_store.specs.part_set.Parts.{kept_in}
-use Rattle.shared_store.specs.part_set.Runs.{IsMarked, IsSwapped, parts_of_run, with_mark}
+use Rattle.shared_store.specs.part_set.Runs.{IsMarked, parts_of_run, with_mark}
 use Rattle.shared_store.specs.part_set.Sets.{parts_of}
 use Rattle.shared_store.proofs.PartSetMaps.{true_or_false}
 use Rattle.shared_store.specs.part_writer.declared.loaded.Loaded.{Loaded}

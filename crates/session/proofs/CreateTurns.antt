@@ -24,7 +24,6 @@ use Rattle.shared_store.specs.root_commits.Commits.{IsSealedEntry, StandsWhere}
 use Rattle.shared_store.specs.root_commits.Publications.{publication_of_create, with_entry}
 use Rattle.shared_store.specs.root_commits.Turns.{CommitsCreate}
 use Rattle.shared_store.specs.root_store.Soundness.{RootStands}
-use Rattle.shared_store.specs.root_store.Stores.{table_at}
 use Rattle.shared_store.specs.stage_dir.Stages.{Filled}
 use Rattle.shared_store.specs.Engines.{GoesOn, Opened, root_in}
 use Rattle.shared_store.proofs.Levels.{parts_created}

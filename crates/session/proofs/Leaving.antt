@@ -1,5 +1,5 @@
 -- What calls leave of an open root, one after another, and what accounts for their replies.
-use Rattle.std.proofs.Common.{◌≡◌, ℕ, ◌<◌, ◌≤◌, Bool, true, false, List, Option, Result, Ok, Err, IfOk, IfErr, refl, sym, ap, ◌∙◌, subst, arith}
+use Rattle.std.proofs.Common.{◌≡◌, ℕ, ◌<◌, ◌≤◌, true, false, List, Option, Result, Ok, Err, IfOk, IfErr, refl, sym, ap, ◌∙◌, subst, arith}
 use Rattle.std.proofs.lemmas.Bool.{false≢true}
 use Rattle.mt_base.specs.declared.memory.NoMemory.{NoMemory}
 use Rattle.mt_outside.specs.declared.disk.Arm.{Ghosts as ArmGhosts}
@@ -11,7 +11,7 @@ use Rattle.replies.proofs.Causing.{counted}
 use Rattle.shared_store.specs.durable_commit.Publications.{Storage}
 use Rattle.shared_store.specs.Engines.{GoesOn, Opened}
 use Rattle.shared_store.proofs.Levels.{parts_stay, parts_then}
-use Rattle.session.specs.Lapses.{Accounts, AcceptsNothing, KeepsOpen, KeepsRoot, Leaves, Never, NoneFailedIn, counts, lapse, still}
+use Rattle.session.specs.Lapses.{Accounts, AcceptsNothing, KeepsOpen, KeepsRoot, Leaves, NoneFailedIn, counts, lapse, still}
 
 -- ---- what stays
 

@@ -1,5 +1,5 @@
 -- Each row that meets a condition is in a granule that the plan chooses, and each of a granule in which a conjunct is not asked meets that.
-use Rattle.std.proofs.Common.{◌≡◌, ◌<◌, ◌+◌, ◌*◌, ℕ, suc, Bool, true, false, not, ◌&&◌, List, [], ◌∷◌, ◌++◌, length, map, take, drop, slice_get, refl, sym, ap, ◌∙◌, subst, Option, Some, arith, mul-zero}
+use Rattle.std.proofs.Common.{◌≡◌, ◌<◌, ◌+◌, ◌*◌, ℕ, suc, Bool, true, false, not, ◌&&◌, List, [], ◌∷◌, length, map, take, drop, slice_get, refl, sym, ap, ◌∙◌, subst, Option, Some, arith, mul-zero}
 use Rattle.std.proofs.Math.Nat.{mul-suc}
 use Rattle.std.specs.List.{All, AllByRecursion, AllZip, filter, zip as pairs}
 use Rattle.std.specs.List.Sorted.{IsSorted}

@@ -1,5 +1,5 @@
 -- What becomes of a work from before it was taken up: of a pair, or of a whole partition.
-use Rattle.std.proofs.Common.{◌≡◌, ℕ, Bool, true, false, List, Option, Some, None, Result, Ok, Err, refl, sym, subst}
+use Rattle.std.proofs.Common.{◌≡◌, ℕ, Bool, true, false, List, Option, Some, Result, Ok, refl, sym, subst}
 use Rattle.std.specs.List.{Contains as HasItem}
 use Rattle.mt_base.specs.declared.memory.NoMemory.{NoMemory}
 use Rattle.mt_base.specs.declared.partition.Partition.{Partition}
@@ -7,8 +7,6 @@ use Rattle.mt_outside.specs.Files.{Files}
 use Rattle.replies.specs.mt_model.History.{IsTableSchema}
 use Rattle.shared_store.specs.merge_select.declared.scope.Scope.{Scope}
 use Rattle.shared_store.specs.merge_select.Picks.{InScope}
-use Rattle.shared_store.specs.part_reader.declared.reading.Part.{Part}
-use Rattle.shared_store.specs.part_set.declared.kept.Kept.{Kept}
 use Rattle.shared_store.specs.part_set.declared.run.Run.{Run}
 use Rattle.shared_store.specs.part_set.Sets.{parts_of}
 use Rattle.shared_store.specs.declared.work.Work.{Work}

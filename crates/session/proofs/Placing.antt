@@ -12,7 +12,7 @@ use Rattle.mt_outside.specs.Causes.{Rose}
 use Rattle.mt_outside.specs.Files.{Files}
 use Rattle.replies.specs.mt_model.declared.refusal.Bound.TheVariants as bound
 use Rattle.replies.specs.mt_model.declared.refusal.Refusal.TheVariants as refusal
-use Rattle.replies.specs.mt_model.Refusals.{is_damage, refusal_line}
+use Rattle.replies.specs.mt_model.Refusals.{refusal_line}
 use Rattle.replies.specs.Foreseen.{Foresees}
 use Rattle.replies.proofs.Causing.{says_script, says_stopped, says_unsettled}
 use Rattle.replies.proofs.Counting.{commit_failed, level_failed, was_stopped}

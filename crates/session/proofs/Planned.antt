@@ -1,5 +1,5 @@
 -- What a plan chooses of a part that holds rows is what these rows choose, and so it skips no row that meets the condition.
-use Rattle.std.proofs.Common.{◌≡◌, ℕ, zero, suc, ◌+◌, ◌*◌, ◌/◌, ◌<◌, ◌≤◌, ◌⊎◌, inl, inr, Bool, true, false, List, [], ◌∷◌, All, Option, Some, None, slice_get, get_or, drop, length, map, take, refl, sym, ap, ap₂, ◌∙◌, subst, arith, add-one, mul_comm}
+use Rattle.std.proofs.Common.{◌≡◌, ℕ, zero, suc, ◌+◌, ◌*◌, ◌/◌, ◌<◌, inr, Bool, true, false, List, [], ◌∷◌, All, Some, None, slice_get, get_or, drop, length, map, take, refl, ap, ap₂, ◌∙◌, subst, arith, add-one, mul_comm}
 use Rattle.std.specs.List.{filter, fold, range_with_len}
 use Rattle.std.proofs.lemmas.Grind.{div_ceil_times}
 use Rattle.std.proofs.lemmas.List.{get_or_past}

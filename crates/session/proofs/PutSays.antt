@@ -12,9 +12,9 @@ use Rattle.shared_store.specs.durable_commit.declared.causes.Limit.TheVariants a
 use Rattle.shared_store.specs.durable_commit.declared.causes.Refused.TheVariants as refused
 use Rattle.shared_store.specs.durable_commit.Publications.{IsUnsettled, Publication, Storage}
 use Rattle.shared_store.specs.root_commits.declared.commits.Returned.{Returned}
-use Rattle.shared_store.specs.root_commits.Merges.{Merging, name_of_merge, sources_of, within_levels}
+use Rattle.shared_store.specs.root_commits.Merges.{name_of_merge, sources_of, within_levels}
 use Rattle.shared_store.specs.root_commits.Publications.{IsKeptBack, Publishes, publication_of_merge}
-use Rattle.shared_store.specs.root_commits.Turns.{CommitsMerge, Root}
+use Rattle.shared_store.specs.root_commits.Turns.{CommitsMerge}
 use Rattle.shared_store.specs.declared.work.Put.{Put}
 use Rattle.shared_store.specs.declared.work.Put.TheVariants as put
 use Rattle.shared_store.specs.declared.work.Work.{Work}

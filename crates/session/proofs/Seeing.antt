@@ -1,46 +1,39 @@
 -- What a SELECT sees of a pinned table: what is asked for that, with FINAL and without it.
 use Rattle.std.proofs.Common.{◌≡◌, ◌<◌, ◌^◌, ◌∙◌, ℕ, Bool, true, false, List, [], ◌∷◌, All, Option, Some, Result, Ok, Err, length, map, refl, sym, ap, subst}
 use Rattle.std.specs.List.{AllZip, zip as pairs}
-use Rattle.std.specs.Result.{IfErr, IfOk, OnOk}
+use Rattle.std.specs.Result.{IfOk, OnOk}
 use Rattle.std.proofs.lemmas.Bool.{false≢true}
 use Rattle.std.proofs.lemmas.List.Elements.{All-cons, All-head, All-nil, All-tail, recursion_from_All}
 use Rattle.mt_values.specs.declared.expr.Test.{Test}
 use Rattle.mt_values.specs.declared.schema.Schema.{Schema}
 use Rattle.mt_values.specs.Conditions.{Condition, conjuncts_of, tests_of}
-use Rattle.mt_values.specs.Granules.{chosen_of, granules}
 use Rattle.mt_values.specs.Grid.{Cells}
-use Rattle.mt_values.specs.Schemas.{column_types}
 use Rattle.mt_values.specs.Tables.{partition_of}
-use Rattle.mt_values.specs.Values.{Row, types_of}
+use Rattle.mt_values.specs.Values.{Row}
 use Rattle.mt_outside.specs.Files.{Files}
 use Rattle.replies.specs.mt_model.History.{History, IsTableSchema, schema_of}
 use Rattle.replies.specs.mt_model.Live.{live}
 use Rattle.final_fold.specs.part_history.declared.part.CorePart.{CorePart}
 use Rattle.final_fold.specs.part_history.Parts.{PartStands}
 use Rattle.final_fold.proofs.PartHistoryOwnRows.{own_rows}
-use Rattle.shared_store.specs.part_name.declared.part.PartName.{PartName}
 use Rattle.shared_store.specs.part_reader.declared.reading.Part.{Part}
-use Rattle.shared_store.specs.part_reader.declared.reading.PartFault.{PartFault}
-use Rattle.shared_store.specs.part_reader.Faults.{IsNoDamage}
 use Rattle.shared_store.specs.part_set.declared.kept.Kept.{Kept}
 use Rattle.shared_store.specs.part_set.declared.kept.Snap.{Snap}
 use Rattle.shared_store.specs.root_store.declared.store.CoreStore.{CoreStore}
-use Rattle.shared_store.specs.root_store.Soundness.{HoldsRows}
 use Rattle.shared_store.specs.root_store.Stores.{CoreStands, core_parts}
 use Rattle.shared_store.proofs.RootStoreTableMarks.{has_marks}
 use Rattle.select_plan.specs.Plans.{asked_over, asked_part, planned, read_of}
 use Rattle.final_fold.specs.declared.asking.Wanted.{Wanted}
-use Rattle.final_fold.specs.Asked.{IsWanted, MeetUnasked, tested}
+use Rattle.final_fold.specs.Asked.{IsWanted, MeetUnasked}
 use Rattle.final_fold.specs.Folded.{AreOfPartitions, IsFolded, SkipNoFold, StandByPartition}
-use Rattle.final_fold.specs.Matches.{HoldEachMatch, MeetWhereUnasked, SayOfEach, matching}
+use Rattle.final_fold.specs.Matches.{HoldEachMatch, MeetWhereUnasked, matching}
 use Rattle.final_fold.specs.row_merge.MergedParts.{PartsHold}
 use Rattle.final_fold.specs.Scans.{joined_rows, values_at}
 use Rattle.final_fold.proofs.Scanning.{joined_typed}
 use Rattle.shared_store.specs.Engines.{IsSnapOf}
-use Rattle.session.specs.Selects.{AddsSeen, ExplainsRead, IsSeen, SaysRead}
-use Rattle.session.proofs.Damaged.{all_hold}
+use Rattle.session.specs.Selects.{AddsSeen, IsSeen}
 use Rattle.session.proofs.FinalReads.{are_of_partitions, folded_of, folded_typed, skip_no_fold, stand_parted}
-use Rattle.session.proofs.Matching.{plans_hold, plans_sure, reads_count}
+use Rattle.session.proofs.Matching.{plans_hold, plans_sure}
 use Rattle.session.proofs.SelectStanding.{Held, snap_held, snap_schema}
 
 -- of each item what is known of what becomes of it

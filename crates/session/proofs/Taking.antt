@@ -1,17 +1,16 @@
 -- A work that was taken up of a pair or of a whole partition.
-use Rattle.std.proofs.Common.{◌≡◌, add-one, ℕ, suc, ◌+◌, ◌<◌, Bool, true, false, ◌||◌, List, [], ◌∷◌, Option, Some, None, IsErr, Result, Ok, Err, length, take, drop, sym, ap, ap₂, ◌∙◌, subst, arith}
+use Rattle.std.proofs.Common.{◌≡◌, add-one, ℕ, suc, ◌+◌, ◌<◌, Bool, false, ◌||◌, List, [], ◌∷◌, Option, Some, None, Ok, Err, length, take, drop, sym, ap, ap₂, ◌∙◌, subst, arith}
 use Rattle.std.proofs.Math.Seq.{drop-cons, take-length}
 use Rattle.std.proofs.lemmas.Bool.{false≢true}
 use Rattle.std.proofs.lemmas.Bool.Decides.{nat_tests}
 use Rattle.std.proofs.lemmas.List.Elements.{All-contains}
 use Rattle.std.proofs.lemmas.Option.{get_or_from_slice_get, slice_get_within}
 use Rattle.std.specs.List.{slice_get}
-use Rattle.mt_base.specs.declared.memory.NoMemory.{NoMemory}
 use Rattle.mt_base.specs.declared.partition.Partition.{Partition}
 use Rattle.mt_base.specs.Limits.{level_limit}
 use Rattle.mt_outside.specs.Files.{Files}
 use Rattle.shared_store.specs.merge_select.declared.scope.Scope.{Scope}
-use Rattle.shared_store.specs.merge_select.Picks.{InScope, IsPick}
+use Rattle.shared_store.specs.merge_select.Picks.{InScope}
 use Rattle.shared_store.specs.merge_select.Whole.{IsFirstBusy, PicksAll}
 use Rattle.shared_store.specs.mutation_queue.Queue.{mutations_of}
 use Rattle.shared_store.specs.part_name.declared.part.PartName.{PartName}

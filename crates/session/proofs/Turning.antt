@@ -32,12 +32,12 @@ use Rattle.shared_store.proofs.RootCommitsSameStores.{stands_same}
 use Rattle.shared_store.proofs.RootCommitsTurning.{AfterRefusal, after_refusal}
 use Rattle.shared_store.specs.root_store.declared.store.Table.{Table}
 use Rattle.shared_store.specs.root_store.Soundness.{RootStands}
-use Rattle.shared_store.specs.root_store.Stores.{CoreStands, table_at}
+use Rattle.shared_store.specs.root_store.Stores.{table_at}
 use Rattle.shared_store.specs.Engines.{GoesOn, Opened, root_in, schema_kept}
 use Rattle.shared_store.proofs.Levels.{parts_added}
 use Rattle.session.specs.declared.sealing.SealedBlock.{SealedBlock}
 use Rattle.session.specs.declared.turns.TurnReply.{TurnReply}
-use Rattle.session.specs.Answers.{Knows, Turned, met}
+use Rattle.session.specs.Answers.{Knows, met}
 use Rattle.session.specs.Lapses.{Accounts, AcceptsNothing, Leaves, Never, counts, lapse}
 use Rattle.session.specs.Stops.{IsLineOf}
 use Rattle.session.specs.Turns.{AcceptsInTurn, AddsParts, EndsInTurn, InTurn, IsPartAt, IsPartFor, LeavesInTurn, NoneFailed, RefusesInTurn, TakesTurn, part_command, replied}

@@ -1,10 +1,9 @@
 -- A work whose parts were not read, or of which nothing was sealed.
-use Rattle.std.proofs.Common.{◌≡◌, ℕ, Bool, true, List, [], ◌∷◌, ◌++◌, Option, Some, slice_get, refl, sym, ap, ◌∙◌, subst, inl}
-use Rattle.std.proofs.lemmas.List.Elements.{All-contains, Contains-append_left, Contains-append_right}
+use Rattle.std.proofs.Common.{◌≡◌, ℕ, Bool, true, List, ◌++◌, Option, Some, slice_get, refl, sym, ap, ◌∙◌, subst, inl}
+use Rattle.std.proofs.lemmas.List.Elements.{Contains-append_left, Contains-append_right}
 use Rattle.std.proofs.lemmas.Option.{get_or_from_slice_get, slice_get_within}
 use Rattle.std.specs.List.{Contains as HasItem}
 use Rattle.mt_values.specs.declared.schema.Schema.{Schema}
-use Rattle.mt_values.specs.Values.{Row}
 use Rattle.mt_outside.specs.declared.disk.DiskError.TheVariants as failure
 use Rattle.mt_outside.specs.Causes.{Rose}
 use Rattle.mt_outside.specs.Files.{Files}
@@ -18,14 +17,10 @@ use Rattle.shared_store.specs.part_reader.declared.reading.Part.{Part}
 use Rattle.shared_store.specs.part_reader.declared.reading.PartFault.{PartFault}
 use Rattle.shared_store.specs.part_reader.declared.reading.PartFault.TheVariants as fault
 use Rattle.shared_store.specs.part_reader.Faults.{IsNoDamage}
-use Rattle.shared_store.specs.part_reader.Parts.{PartHolds}
 use Rattle.shared_store.specs.part_set.declared.kept.Kept.{Kept}
 use Rattle.shared_store.specs.part_set.declared.run.Run.{Run}
 use Rattle.shared_store.specs.part_set.Sets.{parts_of}
-use Rattle.shared_store.specs.root_store.Soundness.{HasSoundParts, HoldsRows}
 use Rattle.shared_store.specs.root_store.Stores.{CoreStands, table_at}
-use Rattle.shared_store.proofs.PartSetOrphans.{item_more}
-use Rattle.shared_store.proofs.PartSetItems.{item_first}
 use Rattle.replies.proofs.Causing.{says_damage, says_failed}
 use Rattle.replies.proofs.Counting.{stage_failed}
 use Rattle.final_fold.specs.row_merge.MergedParts.{ExplainsMerge, ExplainsPart, PartsHold}

@@ -1,5 +1,5 @@
 -- Which parts the merges of an OPTIMIZE change, one merge after another.
-use Rattle.std.proofs.Common.{◌≡◌, ◌≢◌, ◌⊎◌, ◌&&◌, ℕ, ◌+◌, ◌<◌, Bool, true, false, List, [], ◌∷◌, ◌++◌, length, take, drop, get_or, refl, sym, ap, ap₂, ◌∙◌, subst, inl, inr, Option, Some, None, IfSome, Result, Ok, Err, IfOk, arith}
+use Rattle.std.proofs.Common.{◌≡◌, ◌≢◌, ◌⊎◌, ◌&&◌, ℕ, ◌+◌, ◌<◌, Bool, true, false, List, [], ◌∷◌, ◌++◌, length, take, drop, get_or, refl, sym, ap, ap₂, ◌∙◌, subst, inl, inr, Option, Some, None, IfSome, Result, Ok, Err, arith}
 use Rattle.std.specs.BTreeMap.{is_at}
 use Rattle.std.specs.Cmp.Lexicographic.{slice_cmp}
 use Rattle.std.specs.List.{AllPairs, Contains as HasItem}
@@ -20,7 +20,7 @@ use Rattle.replies.proofs.MtModelTables.{itself_same, same_is}
 use Rattle.shared_store.specs.part_name.PartNames.{IsPartition, partition_text}
 use Rattle.shared_store.specs.part_reader.declared.reading.Part.{Part}
 use Rattle.shared_store.specs.part_set.declared.kept.Kept.{Kept}
-use Rattle.shared_store.specs.part_set.Parts.{kept_in, partition_rank}
+use Rattle.shared_store.specs.part_set.Parts.{partition_rank}
 use Rattle.shared_store.specs.part_set.Sets.{parts_of}
 use Rattle.shared_store.proofs.PartSetItems.{item_first, item_none}
 use Rattle.shared_store.proofs.PartSetMaps.{true_or_false}
@@ -35,7 +35,7 @@ use Rattle.shared_store.specs.merge_select.Whole.{PicksAll}
 use Rattle.shared_store.specs.mutation_queue.declared.mutations.Mutations.{Mutations}
 use Rattle.shared_store.specs.mutation_queue.Queue.{mutations_of}
 use Rattle.session.specs.Lapses.{Lapse, lapse}
-use Rattle.session.specs.Merges.{AllAreFinal, Any, AreFinal, ArePartitionsOf, BecameOne, EndsAt, EndsWork, IsFinal, IsFinalAt, IsNamed, KeepsBeside, MergesEach, MergesNamed, MergesWhole, StopsAt, StopsAtOne, StopsWhole, TellsOfMerge, TellsOfTable, parts_at, partitions_in}
+use Rattle.session.specs.Merges.{Any, AreFinal, ArePartitionsOf, BecameOne, EndsAt, EndsWork, IsFinal, IsFinalAt, IsNamed, KeepsBeside, MergesEach, MergesNamed, MergesWhole, StopsAt, StopsAtOne, StopsWhole, TellsOfMerge, TellsOfTable, parts_at, partitions_in}
 
 module _ {F : Type 0} where
   pub beside_same : (These : List ℕ → Partition → Type 0) (was now : Opened F) → now ≡ was → KeepsBeside These was.store now.store

@@ -1,5 +1,5 @@
 -- From before a call to after it: what stays of an open root, and what accounts for a reply (docs/definitions-of-runs.md, "Statements taken").
-use Rattle.std.specs.Prelude.{◌≡◌, ◌<◌, ◌≤◌, ℕ, true, false, List, Option, Result, IfOk, OnErr}
+use Rattle.std.specs.Prelude.{◌≡◌, ◌<◌, ◌≤◌, ℕ, true, List, Option, Result, IfOk, OnErr}
 use Rattle.mt_base.specs.declared.memory.NoMemory.{NoMemory}
 use Rattle.mt_outside.specs.Files.{Files}
 use Rattle.replies.specs.mt_model.Refusals.{is_damage}

@@ -1,5 +1,5 @@
 -- What the merges of an OPTIMIZE do to an open root, and what refuses them (docs/definitions-of-runs.md, "Statements taken").
-use Rattle.std.specs.Prelude.{◌≡◌, ◌≢◌, ◌⊎◌, ◌<◌, ◌≤◌, ◌↔◌, ℕ, Bool, true, false, List, [], ◌∷◌, ◌++◌, map, Option, None, Some, Result, Ok, Err, All, IfSome}
+use Rattle.std.specs.Prelude.{◌≡◌, ◌≢◌, ◌⊎◌, ◌<◌, ◌≤◌, ◌↔◌, ℕ, Bool, true, List, [], ◌∷◌, ◌++◌, map, Option, None, Some, Result, Ok, Err, All, IfSome}
 use Rattle.std.specs.List.{AllPairs, Contains as HasItem}
 use Rattle.std.specs.Option.{MatchOption}
 use Rattle.mt_base.specs.declared.memory.NoMemory.{NoMemory}

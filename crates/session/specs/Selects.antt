@@ -1,7 +1,6 @@
 -- What a SELECT reads and what it tells of damage.
-use Rattle.std.specs.Prelude.{◌≡◌, ◌⊎◌, ◌<◌, ◌^◌, ℕ, [], ◌++◌, Bool, true, false, List, All, Result, Ok, Err, IfOk, Option, length, map}
+use Rattle.std.specs.Prelude.{◌≡◌, ◌⊎◌, ◌<◌, ◌^◌, ℕ, [], ◌++◌, Bool, true, false, List, All, Ok, Err, Option, length, map}
 use Rattle.std.specs.List.{Contains as HasItem, concat}
-use Rattle.mt_base.specs.declared.memory.NoMemory.{NoMemory}
 use Rattle.mt_base.specs.declared.name.FileId.{FileId}
 use Rattle.mt_base.specs.Files.{file_name}
 use Rattle.mt_values.specs.declared.manifest.FileMark.{FileMark}

@@ -1,5 +1,5 @@
 use Rattle.std.proofs.lemmas.Result.{IfErr-weaker}
-use Rattle.std.proofs.Common.{◌≡◌, ◌+◌, [], ℕ, Ok, Err, true, refl, ap, ◌∙◌, subst}
+use Rattle.std.proofs.Common.{◌≡◌, [], Ok, Err, true, refl, ap, ◌∙◌, subst}
 use Rattle.mt_values.specs.declared.statement.Statement.TheVariants as statement
 use Rattle.mt_base.specs.Stops.{Refuses}
 use Rattle.mt_outside.proofs.Unfailed.{unfailed}
@@ -19,7 +19,7 @@ use Rattle.session.specs.Lapses.{Never, counts, lapse}
 use Rattle.session.proofs.Accepting.{answers_kept, refused_as}
 use Rattle.session.proofs.CreateTurns.{create_answer_accounts, create_answered, create_as, create_leaves, create_memory, create_parts, create_refusal_accounts, create_refused, create_returned, sealed_entry}
 use Rattle.session.proofs.Creating.{create_gives, created}
-use Rattle.session.proofs.Leaving.{accounts_line, accounts_nothing, leaves_itself, never_by}
+use Rattle.session.proofs.Leaving.{accounts_line, accounts_nothing, never_by}
 use Rattle.session.proofs.creates.create.Goals as goal
 
 -- what it says is refused

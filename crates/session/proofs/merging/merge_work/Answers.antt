@@ -1,12 +1,9 @@
-use Rattle.std.proofs.Common.{◌≡◌, ◌∙◌, ℕ, List, Some, Ok, refl, sym, subst, inl, inr}
-use Rattle.mt_values.specs.Values.{Row}
+use Rattle.std.proofs.Common.{◌∙◌, List, sym, subst, inr}
 use Rattle.shared_store.specs.part_reader.declared.reading.Part.{Part}
 use Rattle.shared_store.specs.part_set.declared.kept.Kept.{Kept}
 use Rattle.shared_store.proofs.RootStoreTableIndexes.{has_indexes}
 use Rattle.shared_store.proofs.RootStoreTableMarks.{has_marks}
 use Rattle.final_fold.specs.row_merge.MergedParts.{ExplainsMerge, PartsHold}
-use Rattle.session.specs.Lapses.{lapse}
-use Rattle.session.specs.Merges.{EndsWork}
 use Rattle.session.proofs.PutSays.{ends_then, unread_err}
 use Rattle.session.proofs.merging.merge_work.Goals as goal
 

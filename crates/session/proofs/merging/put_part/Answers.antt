@@ -1,4 +1,4 @@
-use Rattle.std.proofs.Common.{◌≡◌, Option, Some, None, IfSome, Result, Ok, Err, IsErr, refl, sym, ap, ◌∙◌, inl}
+use Rattle.std.proofs.Common.{Ok, Err, refl, inl}
 use Rattle.session.proofs.PutSays.{gone_calm, refused_calm, says_err}
 use Rattle.session.proofs.merging.put_part.Goals as goal
 

@@ -1,4 +1,4 @@
-use Rattle.std.proofs.Common.{Option, Some, Ok, false, refl, sym, subst}
+use Rattle.std.proofs.Common.{Option, Ok, false, subst}
 use Rattle.shared_store.specs.declared.work.Work.{Work}
 use Rattle.shared_store.specs.Works.{TakesPair}
 use Rattle.session.proofs.Lapses.{ended_stays, merges_ended, merges_stays}

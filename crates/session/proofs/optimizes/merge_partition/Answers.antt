@@ -1,4 +1,4 @@
-use Rattle.std.proofs.Common.{◌≡◌, Option, Some, Ok, Err, true, refl, sym, subst}
+use Rattle.std.proofs.Common.{◌≡◌, Option, Ok, Err, true, refl, subst}
 use Rattle.shared_store.specs.declared.work.TakeFault.{TakeFault}
 use Rattle.shared_store.specs.declared.work.Work.{Work}
 use Rattle.shared_store.specs.Works.{TakesWhole}

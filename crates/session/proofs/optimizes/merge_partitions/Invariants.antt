@@ -1,5 +1,5 @@
 -- the merges of the partitions so far were all done
-use Rattle.std.proofs.Common.{◌≡◌, ℕ, List, Ok, None, true, take}
+use Rattle.std.proofs.Common.{◌≡◌, Ok, None, true, take}
 use Rattle.session.specs.Lapses.{lapse}
 use Rattle.session.specs.Merges.{AreFinal, Merges}
 use Rattle.session.proofs.optimizes.merge_partitions.Given as goal

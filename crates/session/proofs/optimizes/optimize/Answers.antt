@@ -1,4 +1,4 @@
-use Rattle.std.proofs.Common.{◌≡◌, ◌⊎◌, ℕ, List, IfOk, IsSome, Ok, Err, None, Some, Option, true, inl, inr, sym, ap, ◌∙◌, subst, arith}
+use Rattle.std.proofs.Common.{◌≡◌, ℕ, IfOk, IsSome, Ok, Err, None, Some, true, inl, inr, sym, ap, subst, arith}
 use Rattle.std.proofs.lemmas.Result.{IfOk-weaker}
 use Rattle.mt_values.specs.declared.statement.Statement.TheVariants as statement
 use Rattle.replies.specs.mt_model.declared.refusal.Refusal.TheVariants as refusal
@@ -12,7 +12,7 @@ use Rattle.shared_store.specs.root_store.Stores.{table_at}
 use Rattle.shared_store.specs.Engines.{Opened}
 use Rattle.session.specs.Answers.{Answers, met}
 use Rattle.session.specs.Lapses.{Accounts, counts, lapse}
-use Rattle.session.specs.Merges.{ArePartitionsOf, Finishes, IsRefusal, Merges, MergesNamed, TellsOfTable}
+use Rattle.session.specs.Merges.{Merges, MergesNamed, TellsOfTable}
 use Rattle.session.proofs.Accepting.{answers_err, answers_kept}
 use Rattle.session.proofs.Leaving.{accounts_nothing, leaves_same}
 use Rattle.session.proofs.Optimizing.{all_accounts, all_answers, all_finished, ended_accounts, ended_answers, merges_found, named_found, never_finished, no_table_to_merge, none_finished, none_there, refused_accounts, refused_answers, some_there}

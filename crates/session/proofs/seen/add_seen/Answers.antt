@@ -1,7 +1,6 @@
 use Rattle.std.proofs.lemmas.Result.{IfOk-weaker}
 use Rattle.std.proofs.Common.{◌≡◌, ◌∙◌, Bool, List, IfErr, ap, arith, length, map, subst, sym}
 use Rattle.mt_values.specs.Grid.{Cells}
-use Rattle.mt_values.specs.Values.{Row}
 use Rattle.replies.specs.mt_model.Live.{live}
 use Rattle.shared_store.specs.part_reader.declared.reading.Part.{Part}
 use Rattle.shared_store.specs.part_set.declared.kept.Kept.{Kept}

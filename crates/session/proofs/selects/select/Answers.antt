@@ -1,16 +1,11 @@
 use Rattle.std.proofs.lemmas.Result.{IfOk-weaker}
-use Rattle.std.proofs.Common.{◌≡◌, List, All, inl, sym, ap, subst, arith}
-use Rattle.mt_values.specs.declared.schema.Schema.{Schema}
+use Rattle.std.proofs.Common.{◌≡◌, inl, sym, ap, subst, arith}
 use Rattle.replies.specs.mt_model.declared.refusal.Refusal.TheVariants as refusal
 use Rattle.replies.specs.mt_model.History.{IsTableSchema}
 use Rattle.replies.specs.mt_model.Refusals.{is_damage, refusal_line}
 use Rattle.replies.proofs.Causing.{says_script}
-use Rattle.shared_store.specs.part_reader.declared.reading.Part.{Part}
-use Rattle.shared_store.specs.part_set.declared.kept.Kept.{Kept}
-use Rattle.shared_store.specs.part_set.Sets.{parts_of}
 use Rattle.replies.specs.Foreseen.{history}
 use Rattle.replies.proofs.Refusing.{select_refused}
-use Rattle.shared_store.specs.root_store.Soundness.{HoldsRows}
 use Rattle.session.specs.Lapses.{still}
 use Rattle.session.specs.Selects.{TellsOfDamage, TellsOfSelect}
 use Rattle.session.proofs.Asking.{no_query}

@@ -12,11 +12,11 @@ use Rattle.replies.proofs.Refusing.{text_refused}
 use Rattle.replies.proofs.Undamaged.{cause_line}
 use Rattle.shared_store.specs.Engines.{Opened}
 use Rattle.session.specs.Answers.{Answers, met}
-use Rattle.session.specs.Lapses.{Accounts, Never, counts, lapse, still}
+use Rattle.session.specs.Lapses.{Accounts, counts, lapse, still}
 use Rattle.session.specs.Selects.{TellsOfStatement}
 use Rattle.session.specs.Statements.{DoesAsAsked}
 use Rattle.session.proofs.Accepting.{answers_kept}
-use Rattle.session.proofs.Leaving.{accounts_nothing, accounts_where, leaves_itself, leaves_same}
+use Rattle.session.proofs.Leaving.{accounts_nothing, leaves_itself, leaves_same}
 use Rattle.session.proofs.SelectAnswers.{explained_answers, selected_answers}
 use Rattle.session.proofs.statements.run_statement.Goals as goal
 

@@ -1,4 +1,4 @@
-use Rattle.std.proofs.Common.{◌+◌, ℕ, Ok, Err, ap, ◌∙◌, refl}
+use Rattle.std.proofs.Common.{Ok, ap, ◌∙◌, refl}
 use Rattle.replies.specs.mt_model.Reply.{ok_line}
 use Rattle.shared_store.specs.root_store.Stores.{table_at}
 use Rattle.shared_store.specs.Engines.{schema_kept}
