@@ -1,19 +1,16 @@
 // The rows of the chosen granules of parts, of each the values of all columns.
 ghost use Rattle.std.specs.Prelude.{◌≡◌, ◌<◌, All, IfErr, IfOk, IsErrAnd, IsErrOf, List, length};
 ghost use Rattle.std.specs.List.{range_with_len};
-ghost use Rattle.row_merge.specs.column_file.Marks.{granules};
 ghost use Rattle.table_core.specs.mt_model.History.{IsTableSchema};
 ghost use Rattle.mt_outside.specs.Leaves.{LeavesArm};
 ghost use Rattle.mt_values.specs.Grid.{AreRowsOf};
 ghost use Rattle.mt_values.specs.Schemas.{column_types};
 ghost use Rattle.mt_values.specs.Values.{Row};
-ghost use Rattle.row_merge.specs.part_reader.Faults.{IsNoDamage};
 ghost use Rattle.row_merge.specs.part_reader.Granules.{chosen_of};
 ghost use Rattle.row_merge.specs.part_reader.Parts.{PartHolds};
 ghost use Rattle.row_merge.specs.Merged.{inputs_of};
 ghost use Rattle.row_merge.specs.MergedParts.{PartsHold, column_places};
 ghost use Rattle.final_fold.specs.Folded.{ExplainsFold, ExplainsWhole, chosen_inputs};
-ghost use Rattle.final_fold.specs.Matches.{SayOfEach};
 
 use crate::asking::Wanted;
 use mt_base::{NoMemory, Seq};

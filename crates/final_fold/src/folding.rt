@@ -7,16 +7,13 @@ ghost use Rattle.table_core.specs.mt_model.History.{IsTableSchema};
 ghost use Rattle.mt_outside.specs.Leaves.{LeavesArm};
 ghost use Rattle.mt_values.specs.Grid.{AreRowsOf, Cells};
 ghost use Rattle.mt_values.specs.Schemas.{column_types};
-ghost use Rattle.mt_values.specs.Tables.{same_partition};
 ghost use Rattle.mt_values.specs.Values.{Row, types_of};
-ghost use Rattle.row_merge.specs.part_reader.Faults.{IsNoDamage};
 ghost use Rattle.row_merge.specs.part_reader.Parts.{with_columns};
 ghost use Rattle.row_merge.specs.part_set.declared.kept.Kept.{Kept};
 ghost use Rattle.row_merge.specs.primary_marks.Keys.{HasMarks};
 ghost use Rattle.row_merge.specs.Merged.{ArePartRows, inputs_of};
 ghost use Rattle.final_fold.specs.Asked.{IsWanted};
 ghost use Rattle.final_fold.specs.Folded.{AddsFold, AddsMerge, AreOfPartitions, ExplainsFold, IsFolded, SkipNoFold, StandByPartition, count_in};
-ghost use Rattle.final_fold.specs.Matches.{SayOfEach};
 ghost use Rattle.row_merge.specs.MergedParts.{PartsHold};
 ghost use Rattle.final_fold.specs.Scans.{HaveTypes, joined_rows, values_at};
 

@@ -1,10 +1,6 @@
 // Which rows of a part's chosen granules meet a condition, by the columns of the conjuncts that are asked.
-ghost use Rattle.std.specs.Prelude.{◌≡◌, IfErr, IfOk, IsErrOf, List, length};
-ghost use Rattle.row_merge.specs.column_file.Marks.{granules};
+ghost use Rattle.std.specs.Prelude.{◌≡◌, IfErr, IfOk, IsErrOf};
 ghost use Rattle.mt_outside.specs.Leaves.{LeavesArm};
-ghost use Rattle.mt_values.specs.Values.{Row};
-ghost use Rattle.row_merge.specs.part_reader.Faults.{IsNoDamage};
-ghost use Rattle.row_merge.specs.part_reader.Parts.{PartHolds};
 ghost use Rattle.final_fold.specs.Asked.{IsTask};
 ghost use Rattle.final_fold.specs.Matches.{AreMatches, ExplainsAsked, granules_met, mask_met};
 

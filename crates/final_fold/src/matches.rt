@@ -3,9 +3,8 @@ ghost use Rattle.std.specs.Prelude.{◌≡◌, ◌≤◌, [], All, IfErr, IfOk, 
 ghost use Rattle.mt_outside.specs.Leaves.{LeavesArm};
 ghost use Rattle.mt_values.specs.Grid.{Cells};
 ghost use Rattle.mt_values.specs.Values.{Row};
-ghost use Rattle.row_merge.specs.part_reader.Faults.{IsNoDamage};
 ghost use Rattle.final_fold.specs.Asked.{IsWanted};
-ghost use Rattle.final_fold.specs.Matches.{ExplainsMatches, HoldEachMatch, MeetWhereUnasked, SayOfEach, matching};
+ghost use Rattle.final_fold.specs.Matches.{ExplainsMatches, HoldEachMatch, MeetWhereUnasked, matching};
 ghost use Rattle.row_merge.specs.MergedParts.{PartsHold};
 ghost use Rattle.final_fold.specs.Scans.{HaveTypes, joined_rows, rows_kept, values_at};
 

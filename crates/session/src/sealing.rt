@@ -2,10 +2,9 @@
 //
 // The turns come in the order of the partitions. A part can't be let go, so a list of them is taken from its end: the last part of a
 // list has the first turn, and the last block is sealed first.
-ghost use Rattle.std.specs.Prelude.{◌≡◌, ◌<◌, ◌≤◌, true, All, IfOk, IfSome, OnOk, map};
+ghost use Rattle.std.specs.Prelude.{◌≡◌, ◌<◌, ◌≤◌, true, All, IfOk, IfSome, map};
 ghost use Rattle.mt_outside.specs.Causes.{Rose};
 ghost use Rattle.mt_outside.specs.DiskCauses.{HasDiskCause};
-ghost use Rattle.mt_values.specs.Grid.{AreRowsOf};
 ghost use Rattle.replies.specs.mt_model.History.{IsTableSchema, column_types};
 ghost use Rattle.shared_store.specs.root_commits.Commits.{IsSealedOf};
 ghost use Rattle.session.specs.Turns.{IsPartFor, NoneFailed, in_turn};

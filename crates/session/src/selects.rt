@@ -1,13 +1,11 @@
 // Running a SELECT: a table is pinned in one turn, and its parts are read outside of it.
-ghost use Rattle.std.specs.Prelude.{◌≡◌, ◌<◌, ◌^◌, Ok, false, ℕ, All, IfOk};
+ghost use Rattle.std.specs.Prelude.{◌≡◌, ◌<◌, ◌^◌, Ok, ℕ, IfOk};
 ghost use Rattle.mt_values.specs.Annals.{Told};
 ghost use Rattle.replies.specs.mt_model.History.{IsTableSchema};
-ghost use Rattle.replies.specs.mt_model.Refusals.{is_damage};
 ghost use Rattle.replies.specs.mt_model.Queries.{query_of};
 ghost use Rattle.final_fold.specs.Scans.{rows_kept};
 ghost use Rattle.replies.specs.Foreseen.{history};
 ghost use Rattle.shared_store.specs.root_store.declared.store.CoreStore.{CoreStore};
-ghost use Rattle.shared_store.specs.root_store.Soundness.{HasSoundParts, HoldsRows};
 ghost use Rattle.shared_store.specs.root_store.Stores.{CoreStands};
 ghost use Rattle.shared_store.specs.Engines.{IsSnapOf};
 ghost use Rattle.session.specs.Answers.{Knows};
