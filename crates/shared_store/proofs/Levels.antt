@@ -32,7 +32,7 @@ use Rattle.root_commits.proofs.PartSetItems.{item_first, item_kept, item_none}
 use Rattle.root_commits.proofs.PartSetMaps.{found_is, true_or_false}
 use Rattle.root_commits.specs.Commits.{EntersPart, EntersTable, SameStore}
 use Rattle.root_commits.specs.declared.commits.Returned.{Returned}
-use Rattle.root_commits.specs.Merges.{EntersMerge, Merging, sources_of}
+use Rattle.root_commits.specs.Merges.{EntersMerge, Merging, name_of_merge, sources_of}
 use Rattle.root_commits.specs.Publications.{Adding, partition_of_adding}
 use Rattle.root_commits.specs.Turns.{CommitsCreate, CommitsPart, Root}
 use Rattle.root_commits.proofs.Placed.{all_added}
@@ -46,9 +46,10 @@ use Rattle.root_commits.proofs.MergedNames.{of_run, run_within}
 use Rattle.shared_store.specs.declared.work.Work.{Work}
 use Rattle.shared_store.specs.Engines.{GoesOn, IsOpen, Opened, root_in}
 use Rattle.shared_store.specs.Levels.{KeepsGreatest, LeavesParts, has_greatest, is_greatest}
-use Rattle.shared_store.specs.Works.{DropsWork, PutsRun, TakesWork, WorkStands, merging_of, parts_beside}
-use Rattle.shared_store.proofs.Marked.{marks_after}
-use Rattle.shared_store.proofs.Marking.{StoresAlike, alike_names, marked_alike}
+use Rattle.shared_store.specs.Works.{Clears, DropsWork, PutsRun, SourcesStand, TakesWork, merging_of, parts_beside}
+use Rattle.shared_store.proofs.Freed.{clears_all}
+use Rattle.shared_store.proofs.Marked.{cleared_after}
+use Rattle.shared_store.proofs.Marking.{StoresAlike, alike_names, cleared_alike, marked_alike}
 use Rattle.shared_store.proofs.Merging.{merges_done, merges_refused}
 use Rattle.shared_store.proofs.Standing.{long_run, some_item}
 use Rattle.shared_store.proofs.Working.{long_of, other_by_bytes}
@@ -199,7 +200,7 @@ module _ {F : Type 0} where
       record { table = table; kept = found.0; here = found.1; is = subst (λ (n : PartName). level_limit ≤ n.level) (sym found.2) is })
 
   -- a store with a work whose sources stand has a mark
-  stands_marked : (store : CoreStore F) (work : Work F) (run : Run) → WorkStands store work run → HasNoMark store → ⊥
+  stands_marked : (store : CoreStore F) (work : Work F) (run : Run) → SourcesStand store work run → HasNoMark store → ⊥
   stands_marked store work run stands none =
       let parts = parts_beside store work in
       let some = stands.is.some in
@@ -211,21 +212,24 @@ module _ {F : Type 0} where
       false≢true (sym (All-contains (λ (l : Kept (Part F)). l.busy ≡ false) (parts_of store.set work.table) first (none work.table) here) ∙ stands.busy 0 k inside)
 
   pub levels_taken : (was now : Opened F) (work : Work F) (run : Run) → IsOpen now → TakesWork was now work run → KeepsGreatest was.store now.store
-  levels_taken was now work run ready takes = levels_alike was.store now.store ready.sound (marked_alike work run true was.store now.store takes.takes.marks)
+  levels_taken was now work run ready takes = levels_alike was.store now.store ready.sound (marked_alike work run was.store now.store takes.takes.marks)
+
+  -- where no part bore a mark none bears one once marks were taken away
+  free_cleared : (work : Work F) (was now : Root F) → Clears work was now → HasNoMark was.store → HasNoMark now.store
+  free_cleared work was now c none = clears_all work was now c (λ u i d inside busy. absurd (false≢true (sym (none u i d inside) ∙ busy)))
 
   pub parts_dropped : (was now : Opened F) (work : Work F) → IsOpen now → DropsWork work was now → LeavesParts was.store now.store
-  parts_dropped was now work ready (inl d) = record {
-    free = λ none. absurd (stands_marked was.store work d.0 d.1 none);
-    levels = levels_alike was.store now.store ready.sound (marked_alike work d.0 false was.store now.store d.2);
+  parts_dropped was now work ready c = record {
+    free = free_cleared work (root_in was) (root_in now) c;
+    levels = levels_alike was.store now.store ready.sound (cleared_alike work (root_in was) (root_in now) c);
   }
-  parts_dropped was now work ready (inr none) = subst (λ (o : Opened F). LeavesParts was.store o.store) (sym none.1) (parts_stay was.store)
 
   -- a part of the greatest level is none of those that were merged
-  levels_merged : (files_of : F → Option Files) (m : Merging) (was now : CoreStore F) → IsSoundStore was → IsSoundStore now → IsInBlockOrder (kept_in m.partition (parts_of was.set m.table)) → (e : EntersMerge files_of m was now) → e.name.level ≤ level_limit → KeepsGreatest was now
-  levels_merged files_of m was now sound_was sound ordered e low = keeps_by was now sound (λ table kept here is. by table kept here is (true_or_false (same_bytes m.table table)))
+  levels_merged : (files_of : F → Option Files) (m : Merging) (was now : CoreStore F) → IsSoundStore was → IsSoundStore now → IsInBlockOrder (kept_in m.partition (parts_of was.set m.table)) → (name : PartName) → name_of_merge (sources_of was m) ≡ Some name → (e : EntersMerge files_of m name was now) → name.level ≤ level_limit → KeepsGreatest was now
+  levels_merged files_of m was now sound_was sound ordered name name_is e low = keeps_by was now sound (λ table kept here is. by table kept here is (true_or_false (same_bytes m.table table)))
     where
       k : Kept (Part F)
-      k = record { name = e.name; part = e.part; busy = false }
+      k = record { name = name; part = e.part; busy = false }
 
       sources : List (Kept (Part F))
       sources = sources_of was m
@@ -238,7 +242,7 @@ module _ {F : Type 0} where
         | inl front ↦ now_has kept (Contains-append_left e.swapped.front (k ∷ e.swapped.back) kept front)
         | inr rest ↦ elim (Contains-append_cases sources e.swapped.back kept rest) [
           | inl merged ↦ (
-              let within = run_within (parts_of was.set m.table) m.partition m.run ordered (long_of was sound_was m.table) e.name e.name_is kept merged in
+              let within = run_within (parts_of was.set m.table) m.partition m.run ordered (long_of was sound_was m.table) name name_is kept merged in
               absurd (omega (arith, low, is, within.1))
               )
           | inr back ↦ now_has kept (Contains-append_right e.swapped.front (k ∷ e.swapped.back) kept (Contains-append_right (k ∷ []) e.swapped.back kept back))
@@ -259,10 +263,8 @@ module _ {F : Type 0} where
       by (Ok x) p =
           let m = merging_of work p.run sealed loaded in
           let d = merges_done files_of m (root_in was) p.mid part x p.merges in
-          let e : EntersMerge files_of m was.store now.store = subst (λ (r : Root F). EntersMerge files_of m was.store r.store) (sym p.left) d.1.enters in
-          let named : Some d.0 ≡ Some e.name = sym d.1.from.named ∙ e.name_is in
-          let same : d.0 ≡ e.name = cc in
-          levels_merged files_of m was.store now.store goes.found.sound goes.left.sound d.1.from.ordered e (subst (λ (n : PartName). n.level ≤ level_limit) same d.1.from.low)
+          let e : EntersMerge files_of m d.0 was.store now.store = subst (λ (r : Root F). EntersMerge files_of m d.0 was.store r.store) (sym p.left) d.1.enters in
+          levels_merged files_of m was.store now.store goes.found.sound goes.left.sound d.1.from.ordered d.0 d.1.from.named e d.1.from.low
       by (Err r) p =
           let same = merges_refused files_of (merging_of work p.run sealed loaded) (root_in was) p.mid part T r p.merges in
-          levels_alike was.store now.store goes.left.sound (marked_alike work p.run false was.store now.store (marks_after work p.run false was.store p.mid.store now.store same p.left.0))
+          levels_alike was.store now.store goes.left.sound (cleared_alike work (record { store = was.store; storage = p.mid.storage }) (root_in now) (cleared_after work (record { store = was.store; storage = p.mid.storage }) p.mid (root_in now) same p.left refl))

@@ -1,3 +1,4 @@
+pub mod Freed
 pub mod Levels
 pub mod Marked
 pub mod Marking

@@ -1,5 +1,5 @@
 -- A turn that leaves the root ready, and what it keeps: a commit, and a turn that changed marks alone.
-use Rattle.std.proofs.Common.{◌≡◌, ◌≢◌, inl, inr, ℕ, ◌≤◌, arith, Bool, true, false, IsSome, Option, Some, None, Result, Ok, Err, IfOk, OnErr, List, refl, sym, ap, ◌∙◌, subst}
+use Rattle.std.proofs.Common.{◌≡◌, ◌≢◌, ℕ, ◌≤◌, arith, IsSome, Option, Some, None, Result, Ok, Err, IfOk, OnErr, List, map, refl, sym, ap, ◌∙◌, subst}
 use Rattle.std.proofs.lemmas.Bool.{false≢true}
 use Rattle.std.specs.Option.{MatchOption}
 use Rattle.mt_base.specs.declared.memory.NoMemory.{NoMemory}
@@ -13,8 +13,8 @@ use Rattle.root_commits.specs.part_reader.declared.reading.Part.{Part}
 use Rattle.root_commits.specs.part_set.declared.kept.Kept.{Kept}
 use Rattle.root_commits.specs.part_set.declared.run.Run.{Run}
 use Rattle.root_commits.specs.part_set.declared.set.PartSet.{PartSet}
-use Rattle.root_commits.specs.part_set.Parts.{IsInBlockOrder, kept_in}
-use Rattle.root_commits.specs.part_set.Runs.{IsMarked, IsRun}
+use Rattle.root_commits.specs.part_name.declared.part.PartName.{PartName}
+use Rattle.root_commits.specs.part_set.Runs.{cleared}
 use Rattle.root_commits.specs.part_set.Sets.{parts_of}
 use Rattle.root_commits.specs.root_store.declared.store.CoreStore.{CoreStore}
 use Rattle.root_commits.specs.root_store.declared.store.Table.{Table}
@@ -28,7 +28,7 @@ use Rattle.root_commits.specs.Publications.{IsKeptBack, Publishes, adding, parti
 use Rattle.root_commits.specs.Turns.{Commits, CommitsPart, MayAdd, Root}
 use Rattle.shared_store.specs.declared.work.Work.{Work}
 use Rattle.shared_store.specs.Engines.{GoesOn, IsOpen, Opened, root_in}
-use Rattle.shared_store.specs.Works.{DropsWork, Marks, StandsOn, TakesUp, parts_beside}
+use Rattle.shared_store.specs.Works.{Clears, StandsOn, TakesUp, names_of_work}
 use Rattle.shared_store.proofs.Marking.{AreAlike, StoresAlike, alike_itself, held_alike, keeps_alike, leaves_alike, marked_alike, ready_alike, shows_alike, stands_alike}
 
 -- ---- commits
@@ -115,20 +115,16 @@ module _ {F : Type 0} where
     opened_is = same.opened_is;
   }
 
-  -- a store that is the same has the run of a work
-  pub run_same : (work : Work F) (run : Run) (old new : CoreStore F) → SameStore old new → IsRun run (parts_beside old work) → IsRun run (parts_beside new work)
-  run_same work run old new same is = subst (λ (ks : List (Kept (Part F))). IsRun run (kept_in work.partition ks)) (sym (same.parts work.table)) is
-
-  -- marks that were changed after a turn that changed nothing
-  pub marks_after : (work : Work F) (run : Run) (busy : Bool) (old between new : CoreStore F) → SameStore old between → Marks work run busy between new → Marks work run busy old new
-  marks_after work run busy old between new same m = record {
-    marked = subst (λ (ks : List (Kept (Part F))). IsMarked work.partition run busy ks (parts_of new.set work.table)) (same.parts work.table) m.marked;
-    ordered = m.ordered;
-    others = λ u other. m.others u other ∙ same.parts u;
-    tables = m.tables ∙ same.tables;
-    mutations_are = m.mutations_are ∙ same.mutations_are;
-    length_is = m.length_is ∙ same.length_is;
-    opened_is = m.opened_is ∙ same.opened_is;
+  -- marks that were taken away after a turn that changed nothing
+  pub cleared_after : (work : Work F) (was between now : Root F) → SameStore was.store between.store → Clears work between now → (storage_is : between.storage ≡ was.storage) → Clears work was now
+  cleared_after work was between now same c storage_is = record {
+    cleared_are = c.cleared_are ∙ ap (λ (ks : List (Kept (Part F))). map (cleared (names_of_work work)) ks) (same.parts work.table);
+    others = λ u other. c.others u other ∙ same.parts u;
+    tables = c.tables ∙ same.tables;
+    mutations_are = c.mutations_are ∙ same.mutations_are;
+    length_is = c.length_is ∙ same.length_is;
+    opened_is = c.opened_is ∙ same.opened_is;
+    storage_is = c.storage_is ∙ storage_is;
   }
 
   -- ---- roots that differ so
@@ -175,16 +171,20 @@ module _ {F : Type 0} where
   abbrev pub with_set : CoreStore F → PartSet (Part F) → CoreStore F
   with_set store set = record { tables = store.tables; set = set; mutations = store.mutations; length = store.length; opened = store.opened }
 
-  pub marks_set : (work : Work F) (run : Run) (busy : Bool) (store : CoreStore F) (set : PartSet (Part F)) → IsMarked work.partition run busy (parts_of store.set work.table) (parts_of set work.table) → IsInBlockOrder (parts_of set work.table)
-      → ((u : List ℕ) → u ≢ work.table → parts_of set u ≡ parts_of store.set u) → Marks work run busy store (with_set store set)
-  marks_set work run busy store set marked ordered others = record { marked = marked; ordered = ordered; others = others; tables = refl; mutations_are = refl; length_is = refl; opened_is = refl }
+  -- the marks of a work's sources are taken from the set
+  pub clears_set : (work : Work F) (names : List PartName) → names ≡ names_of_work work → (store : CoreStore F) (set : PartSet (Part F)) (storage : Storage) → parts_of set work.table ≡ map (cleared names) (parts_of store.set work.table)
+      → ((u : List ℕ) → u ≢ work.table → parts_of set u ≡ parts_of store.set u) → Clears work (record { store = store; storage = storage }) (record { store = with_set store set; storage = storage })
+  clears_set work names named store set storage cleared_are others = record {
+    cleared_are = cleared_are ∙ ap (λ (ns : List PartName). map (cleared ns) (parts_of store.set work.table)) named;
+    others = others;
+    tables = refl;
+    mutations_are = refl;
+    length_is = refl;
+    opened_is = refl;
+    storage_is = refl;
+  }
 
   -- a work was taken up, or there was no memory
   pub taking_alike : (run : Run) (old new : CoreStore F) (r : Result (Work F) NoMemory) → IfOk r (λ work. TakesUp old new work run) → OnErr r (new ≡ old) → StoresAlike old new
-  taking_alike run old new (Ok work) takes same = marked_alike work run true old new takes.marks
+  taking_alike run old new (Ok work) takes same = marked_alike work run old new takes.marks
   taking_alike run old new (Err e) takes same = subst (λ (s : CoreStore F). StoresAlike old s) (sym same) (store_itself old)
-
-  -- a work was let go
-  pub dropping_alike : (was now : Opened F) (work : Work F) → DropsWork work was now → StoresAlike was.store now.store × (now.storage ≡ was.storage)
-  dropping_alike was now work (inl marks) = (marked_alike work marks.0 false was.store now.store marks.2, marks.3)
-  dropping_alike was now work (inr stays) = (subst (λ (o : Opened F). StoresAlike was.store o.store) (sym stays.1) (store_itself was.store), ap (λ (o : Opened F). o.storage) stays.1)

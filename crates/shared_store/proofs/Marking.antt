@@ -1,10 +1,10 @@
 -- A store whose parts bear other marks.
-use Rattle.std.proofs.Common.{◌≡◌, ◌≢◌, ℕ, ◌≤◌, Bool, true, false, List, [], ◌∷◌, ◌++◌, Option, length, map, refl, sym, ap, ap₂, ◌∙◌, subst, arith, inl, inr}
+use Rattle.std.proofs.Common.{◌≡◌, ◌≢◌, ℕ, ◌≤◌, Bool, true, false, cond, List, [], ◌∷◌, ◌++◌, Option, length, map, refl, sym, ap, ap₂, ◌∙◌, subst, arith, inl, inr}
 use Rattle.std.proofs.lemmas.Bool.{false≢true}
 use Rattle.std.proofs.lemmas.List.Elements.{All-from_recursion, recursion_from_All}
 use Rattle.std.specs.BTreeMap.{is_at}
 use Rattle.std.specs.Cmp.Lexicographic.{slice_cmp}
-use Rattle.std.specs.List.{All, AllByRecursion, AllZip, Contains as HasItem}
+use Rattle.std.specs.List.{All, AllByRecursion, AllZip, Contains as HasItem, list_any}
 use Rattle.std.specs.Map.{lookup}
 use Rattle.std.specs.Option.{option_map}
 use Rattle.std.specs.Ordering.{nat_cmp}
@@ -23,8 +23,8 @@ use Rattle.root_commits.specs.part_reader.declared.reading.Part.{Part}
 use Rattle.root_commits.specs.part_reader.Parts.{PartHolds}
 use Rattle.root_commits.specs.part_set.declared.kept.Kept.{Kept}
 use Rattle.root_commits.specs.part_set.declared.run.Run.{Run}
-use Rattle.root_commits.specs.part_set.Parts.{HasName}
-use Rattle.root_commits.specs.part_set.Runs.{with_mark}
+use Rattle.root_commits.specs.part_set.Parts.{HasName, same_part}
+use Rattle.root_commits.specs.part_set.Runs.{cleared, with_mark}
 use Rattle.root_commits.specs.part_set.Sets.{parts_of}
 use Rattle.root_commits.proofs.PartSetMaps.{true_or_false}
 use Rattle.root_commits.specs.part_history.declared.part.CorePart.{CorePart}
@@ -39,8 +39,10 @@ use Rattle.root_commits.specs.root_store.Shown.{AreShown, GreatestAreShown, Imag
 use Rattle.root_commits.specs.root_store.Soundness.{HasSoundParts, IsReady, IsSoundStore, NamesFit}
 use Rattle.root_commits.specs.root_store.Stores.{CoreStands, core_parts, table_at}
 use Rattle.root_commits.specs.Images.{LeavesOne}
+use Rattle.root_commits.specs.Turns.{Root}
+use Rattle.root_commits.proofs.PartSetClearing.{cleared_name}
 use Rattle.shared_store.specs.declared.work.Work.{Work}
-use Rattle.shared_store.specs.Works.{Marks}
+use Rattle.shared_store.specs.Works.{Clears, Marks, names_of_work}
 
 -- ---- parts that differ in their marks alone
 
@@ -113,8 +115,8 @@ module _ {F : Type 0} where
     pub length_is : new.length ≡ old.length
     pub opened_is : new.opened ≡ old.opened
 
-  pub marked_alike : (work : Work F) (run : Run) (busy : Bool) (old new : CoreStore F) → Marks work run busy old new → StoresAlike old new
-  marked_alike work run busy old new m = record {
+  pub marked_alike : (work : Work F) (run : Run) (old new : CoreStore F) → Marks work run old new → StoresAlike old new
+  marked_alike work run old new m = record {
     parts = λ u. elim (true_or_false (same_bytes work.table u)) [
       | inl same ↦ subst (λ (v : List ℕ). AreAlike (parts_of old.set v) (parts_of new.set v)) (same_is work.table u same) here
       | inr differ ↦ subst (AreAlike (parts_of old.set u)) (sym (m.others u (other u differ))) (alike_itself (parts_of old.set u))
@@ -131,11 +133,36 @@ module _ {F : Type 0} where
       here : AreAlike (parts_of old.set work.table) (parts_of new.set work.table)
       here =
           let x = m.marked in
-          let same = alike_run busy x.front _ x.back in
+          let same = alike_run true x.front _ x.back in
           subst (λ (ks : List (Kept (Part F))). AreAlike ks (parts_of new.set work.table)) (sym x.before_is) (subst (AreAlike _) (sym x.after_is) same)
 
+  -- marks that are taken away by names
+  alike_cleared : (names : List PartName) (ks : List (Kept (Part F))) → AreAlike ks (map (cleared names) ks)
+  alike_cleared names [] = tt
+  alike_cleared names (k ∷ ks) = (cleared_name names k, by (list_any (same_part k.name) names), alike_cleared names ks)
+    where
+      by : (b : Bool) → (cond b (with_mark false k) k).part ≡ k.part
+      by true = refl
+      by false = refl
+
+  pub cleared_alike : (work : Work F) (was now : Root F) → Clears work was now → StoresAlike was.store now.store
+  cleared_alike work was now c = record {
+    parts = λ u. elim (true_or_false (same_bytes work.table u)) [
+      | inl same ↦ subst (λ (v : List ℕ). AreAlike (parts_of was.store.set v) (parts_of now.store.set v)) (same_is work.table u same)
+          (subst (AreAlike (parts_of was.store.set work.table)) (sym c.cleared_are) (alike_cleared (names_of_work work) (parts_of was.store.set work.table)))
+      | inr differ ↦ subst (AreAlike (parts_of was.store.set u)) (sym (c.others u (other u differ))) (alike_itself (parts_of was.store.set u))
+    ];
+    tables = c.tables;
+    mutations_are = c.mutations_are;
+    length_is = c.length_is;
+    opened_is = c.opened_is;
+  }
+    where
+      other : (u : List ℕ) → same_bytes work.table u ≡ false → u ≢ work.table
+      other u differ same = let yes : same_bytes work.table u ≡ true = ap (same_bytes work.table) same ∙ itself_same work.table in false≢true (sym differ ∙ yes)
+
   module _ (old new : CoreStore F) (s : StoresAlike old new) where
-    here : (u : List ℕ) → table_at new u ≡ table_at old u
+    pub here : (u : List ℕ) → table_at new u ≡ table_at old u
     here u = ap (λ (es : List (List ℕ × Table)). lookup (is_at (slice_cmp nat_cmp u)) es) s.tables
 
     named : (u : List ℕ) (n : PartName) → HasName (parts_of new.set u) n → HasName (parts_of old.set u) n
@@ -230,6 +257,7 @@ module _ {F : Type 0} where
             order = alike_all (λ (n : PartName). n.min_block ≤ n.max_block) ks ls (s.parts u) p.order;
           };
       no_other = λ u none. none_more u (x.no_other u (sym (here u) ∙ none));
+      mutations = λ u. ap (λ (queue : Mutations). mutations_of queue u) s.mutations_are ∙ x.mutations u;
     }
 
     fits_alike : (told : Told) → NamesFit old told → NamesFit new told

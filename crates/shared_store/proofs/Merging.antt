@@ -35,15 +35,15 @@ module _ {F S : Type 0} (files_of : F → Option Files) (m : Merging) (was now :
     pub merges_by : (name : PartName) → within_levels (name_of_merge (sources_of was.store m)) ≡ Some name → CommitsMerge files_of m name was now part result → MergesRun files_of m was now part result
     merges_by name is commits = subst (λ (o : Option PartName). MatchOption o IsTooHigh (λ n. CommitsMerge files_of m n was now part result)) (sym is) commits
 
-    enters_opened : (old new : CoreStore F) → EntersMerge files_of m old new → new.opened ≡ old.opened
-    enters_opened old new e = e.opened_is
+    enters_opened : (name : PartName) (old new : CoreStore F) → EntersMerge files_of m name old new → new.opened ≡ old.opened
+    enters_opened name old new e = e.opened_is
 
     -- the count at opening stays, and no fault is taken away
     pub merges_go : MergesRun files_of m was now part result → (now.store.opened ≡ was.store.opened) × (was.storage.failed ≤ now.storage.failed)
     merges_go merges = elim (merges_cases merges) [
       | inl high ↦ (ap (λ (r : Root F). r.store.opened) high.1, subst (λ (r : Root F). was.storage.failed ≤ r.storage.failed) (sym high.1) (omega arith))
       | inr d ↦ (
-        commit_opened (MaySwap m d.0 was) (stopped_by was.store.opened was.storage.failed) (publication_of_merge m d.0) (EntersMerge files_of m) part enters_opened was now result d.1,
+        commit_opened (MaySwap m d.0 was) (stopped_by was.store.opened was.storage.failed) (publication_of_merge m d.0) (EntersMerge files_of m d.0) part (enters_opened d.0) was now result d.1,
         publishes_later (publication_of_merge m d.0) was.storage now.storage part result d.1.turn,
       )
     ]
@@ -69,11 +69,11 @@ module _ {F S : Type 0} (files_of : F → Option Files) (m : Merging) (was now :
     where
       by : (o : Option PartName) → MatchOption o (IsTooHigh (Ok x)) (λ name. CommitsMerge files_of m name was now part (Ok x)) → MatchOption o (IsTooHigh (Ok y)) (λ name. CommitsMerge files_of m name was now part (Ok y))
       by None high = let bad : Ok x ≡ Err too_high = high.0 in absurd cc
-      by (Some name) d = done_as (MaySwap m name was) (stopped_by was.store.opened was.storage.failed) (publication_of_merge m name) (EntersMerge files_of m) part was now x y d
+      by (Some name) d = done_as (MaySwap m name was) (stopped_by was.store.opened was.storage.failed) (publication_of_merge m name) (EntersMerge files_of m name) part was now x y d
 
   pub merges_refused_as : (T U : Type 0) (r : Returned S) → MergesRun {T = T} files_of m was now part (Err r) → MergesRun {T = U} files_of m was now part (Err r)
   merges_refused_as T U r merges = by (within_levels (name_of_merge (sources_of was.store m))) merges
     where
       by : (o : Option PartName) → MatchOption o (IsTooHigh {T = T} (Err r)) (λ name. CommitsMerge {T = T} files_of m name was now part (Err r)) → MatchOption o (IsTooHigh {T = U} (Err r)) (λ name. CommitsMerge {T = U} files_of m name was now part (Err r))
       by None high = let same : r ≡ too_high = cc in (ap (λ (q : Returned S). Err q) same, high.1)
-      by (Some name) d = refused_as (MaySwap m name was) (stopped_by was.store.opened was.storage.failed) (publication_of_merge m name) (EntersMerge files_of m) part was now r d
+      by (Some name) d = refused_as (MaySwap m name was) (stopped_by was.store.opened was.storage.failed) (publication_of_merge m name) (EntersMerge files_of m name) part was now r d

@@ -1,17 +1,20 @@
 -- What follows of a merge that is put in place of a work's sources, where the laws of its commit are given.
-use Rattle.std.proofs.Common.{◌≡◌, ◌≢◌, inl, inr, ℕ, false, Option, Result, Ok, Err, refl, sym, ap, subst}
+use Rattle.std.proofs.Common.{◌≡◌, ◌≢◌, inl, inr, ℕ, List, Option, Result, Ok, Err, refl, sym, ap, subst}
 use Rattle.std.specs.Prelude.{OnErr, OnOk}
 use Rattle.std.specs.Result.{MatchResult}
 use Rattle.mt_values.specs.Annals as keeper
+use Rattle.mt_values.specs.declared.schema.Schema.{Schema}
 use Rattle.mt_outside.specs.Files.{Files}
 use Rattle.root_commits.specs.durable_commit.declared.causes.Refused.TheVariants as refused
 use Rattle.root_commits.specs.durable_commit.Publications.{Storage}
 use Rattle.root_commits.specs.mt_model.History.{History}
 use Rattle.root_commits.specs.part_name.declared.part.PartName.{PartName}
 use Rattle.root_commits.specs.part_set.declared.run.Run.{Run}
+use Rattle.root_commits.specs.part_set.Runs.{IsMissing, names_of_parts, parts_of_run}
 use Rattle.root_commits.specs.part_writer.declared.loaded.Loaded.{Loaded}
 use Rattle.root_commits.specs.stage_dir.Stages.{Filled}
 use Rattle.root_commits.specs.table_core.Core.{Core}
+use Rattle.root_commits.specs.root_store.declared.store.CoreStore.{CoreStore}
 use Rattle.root_commits.specs.root_store.Cores.{ShowsCore}
 use Rattle.root_commits.specs.root_store.Crashes.{KeepsThroughCrashes}
 use Rattle.root_commits.specs.root_store.Soundness.{HasSoundParts, RootStands}
@@ -20,19 +23,19 @@ use Rattle.root_commits.specs.declared.commits.Returned.{Returned}
 use Rattle.root_commits.specs.Commits.{StandsWhere}
 use Rattle.root_commits.specs.Events.{IsPut}
 use Rattle.root_commits.specs.Images.{LeavesAfter, LeavesEither, LeavesOne}
-use Rattle.root_commits.specs.Merges.{Merging}
+use Rattle.root_commits.specs.Merges.{Merging, SealsMerge}
 use Rattle.root_commits.specs.Turns.{CommitsMerge, Root}
 use Rattle.root_commits.proofs.CrashImages.{either_same}
 use Rattle.shared_store.specs.declared.work.Work.{Work}
 use Rattle.shared_store.specs.Engines.{GoesThroughCrashes, Opened, root_in}
-use Rattle.shared_store.specs.Works.{Marks, MergesRun, PutsRun, WorkStands, merging_of}
+use Rattle.shared_store.specs.Works.{Clears, IsGone, MergesRun, PutsRun, SourcesStand, merging_of, names_of_work, parts_beside}
 use Rattle.shared_store.proofs.Marked.{same_alike, store_itself}
-use Rattle.shared_store.proofs.Marking.{StoresAlike, held_alike, keeps_alike, leaves_alike, marked_alike, shows_alike, stands_alike}
+use Rattle.shared_store.proofs.Marking.{StoresAlike, cleared_alike, held_alike, keeps_alike, leaves_alike, shows_alike, stands_alike}
 use Rattle.shared_store.proofs.Merging.{merges_cases, merges_done, merges_done_as, merges_refused, merges_refused_as}
 
 -- ---- how a work is put
 
-module _ {F S : Type 0} (files_of : F → Option Files) (work : Work F) (sealed : Filled) (loaded : Loaded) (seen was now : Opened F) (same : seen ≡ was) (part : S) (run : Run) (there : WorkStands seen.store work run) where
+module _ {F S : Type 0} (files_of : F → Option Files) (work : Work F) (sealed : Filled) (loaded : Loaded) (seen was now : Opened F) (same : seen ≡ was) (part : S) (run : Run) (there : SourcesStand seen.store work run) where
   pub put_done : {T U : Type 0} (x : T) (y : U) → MergesRun files_of (merging_of work run sealed loaded) (root_in seen) (root_in now) part (Ok x) → PutsRun files_of work sealed loaded was now part (Ok y)
   put_done x y merges = subst (λ (o : Opened F). PutsRun files_of work sealed loaded o now part (Ok y)) same (record {
     run = run;
@@ -42,14 +45,23 @@ module _ {F S : Type 0} (files_of : F → Option Files) (work : Work F) (sealed 
     left = refl;
   })
 
-  pub put_refused : (T U : Type 0) (mid : Root F) (r : Returned S) → MergesRun {T = T} files_of (merging_of work run sealed loaded) (root_in seen) mid part (Err r) → Marks work run false mid.store now.store → now.storage ≡ mid.storage → PutsRun {T = U} files_of work sealed loaded was now part (Err r)
-  put_refused T U mid r merges marks stays = subst (λ (o : Opened F). PutsRun {T = U} files_of work sealed loaded o now part (Err r)) same (record {
+  pub put_refused : (T U : Type 0) (mid : Root F) (r : Returned S) → MergesRun {T = T} files_of (merging_of work run sealed loaded) (root_in seen) mid part (Err r) → Clears work mid (root_in now) → PutsRun {T = U} files_of work sealed loaded was now part (Err r)
+  put_refused T U mid r merges clears = subst (λ (o : Opened F). PutsRun {T = U} files_of work sealed loaded o now part (Err r)) same (record {
     run = run;
     there = there;
     mid = mid;
     merges = merges_refused_as files_of (merging_of work run sealed loaded) (root_in seen) mid part T U r merges;
-    left = (marks, stays);
+    left = clears;
   })
+
+-- its sources don't stand in a run
+pub put_gone : {F S : Type 0} (work : Work F) (seen was now : Opened F) → seen ≡ was → (part : S) (name : PartName) → IsMissing (names_of_work work) (parts_beside seen.store work) name → Clears work (root_in seen) (root_in now) → IsGone was now work part name part
+put_gone work seen was now same part name missing clears = subst (λ (o : Opened _). IsGone o now work part name part) same (record { missing = missing; back_is = refl; clears = clears })
+
+-- ---- what was sealed, by the names of the run in which the sources stand
+
+pub named_sources : {F : Type 0} (schema : Schema) (h : History) (store : CoreStore F) (work : Work F) (run : Run) → SourcesStand store work run → (m : Merging) → SealsMerge schema h (names_of_work work) m → SealsMerge schema h (names_of_parts (parts_of_run run (parts_beside store work))) m
+named_sources schema h store work run stands m is = subst (λ (names : List PartName). SealsMerge schema h names m) (sym stands.named) is
 
 -- ---- the laws
 
@@ -68,9 +80,9 @@ module _ {F T S : Type 0} (files_of : F → Option Files) (work : Work F) (seale
     pub left_alike : StoresAlike p.mid.store now.store × (now.storage ≡ p.mid.storage)
     left_alike = by result p.left
       where
-        by : (r : Result T (Returned S)) → MatchResult r (λ _. root_in now ≡ p.mid) (λ _. Marks work p.run false p.mid.store now.store × (now.storage ≡ p.mid.storage)) → StoresAlike p.mid.store now.store × (now.storage ≡ p.mid.storage)
+        by : (r : Result T (Returned S)) → MatchResult r (λ _. root_in now ≡ p.mid) (λ _. Clears work p.mid (root_in now)) → StoresAlike p.mid.store now.store × (now.storage ≡ p.mid.storage)
         by (Ok x) same = (subst (λ (r : Root F). StoresAlike r.store now.store) same (store_itself now.store), ap (λ (r : Root F). r.storage) same)
-        by (Err r) marks = (marked_alike work p.run false p.mid.store now.store marks.0, marks.1)
+        by (Err r) clears = (cleared_alike work p.mid (root_in now) clears, clears.storage_is)
 
     pub put_stands : (h : History) → ((name : PartName) → Does name → StandsWhere files_of h p.mid.store p.mid.storage.disk (RootStands was.storage.disk h)) → CoreStands files_of h was.store
         → CoreStands files_of h now.store × (RootStands was.storage.disk h → RootStands now.storage.disk h)
@@ -142,4 +154,4 @@ module _ {F T S : Type 0} (files_of : F → Option Files) (work : Work F) (seale
   put_no_event (Ok x) p core shows = tt
   put_no_event (Err r) p core shows =
       let same = merges_refused files_of (merging_of work p.run sealed loaded) (root_in was) p.mid part T r p.merges in
-      shows_alike p.mid.store now.store (marked_alike work p.run false p.mid.store now.store p.left.0) files_of core (shows_alike was.store p.mid.store (same_alike was.store p.mid.store same) files_of core shows)
+      shows_alike p.mid.store now.store (cleared_alike work p.mid (root_in now) p.left) files_of core (shows_alike was.store p.mid.store (same_alike was.store p.mid.store same) files_of core shows)

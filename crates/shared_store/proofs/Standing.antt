@@ -4,10 +4,9 @@ use Rattle.std.proofs.Common.{◌≡◌, ◌⊎◌, inl, inr, ℕ, ◌+◌, ◌-
 use Rattle.std.proofs.Math.Seq.{drop-append-add, drop-append_seam, take-append_seam}
 use Rattle.std.proofs.lemmas.Bool.{cases_lt, false≢true}
 use Rattle.std.proofs.lemmas.Bool.Decides.{nat_tests}
-use Rattle.std.proofs.lemmas.List.{append-nil, append_assoc, drop-append-le, drop-drop, get_or-append-add, get_or-drop, get_or-map, get_or-take, get_or_append_left, get_or_default, length-append, length-drop, length-map, length-take-le, take-append-drop, take-append-le, take-map, take-take}
+use Rattle.std.proofs.lemmas.List.{append-nil, append_assoc, drop-append-le, drop-drop, get_or-append-add, get_or-drop, get_or-map, get_or-take, get_or_append_left, get_or_default, length-append, length-drop, length-map, length-take-le, take-append-drop, take-append-le}
 use Rattle.std.proofs.lemmas.List.Elements.{All-cons, All-contains, All-drop, All-filter, All-head, All-map, All-nil, All-tail, All-take, Contains-append_right, Contains-get_or, filter-append, filter_passes}
 use Rattle.std.proofs.lemmas.List.Kept.{AllPairs-filter}
-use Rattle.std.proofs.lemmas.Option.{slice_get_within}
 use Rattle.std.specs.List.{All, Contains as HasItem}
 use Rattle.mt_base.specs.declared.partition.Partition.{Partition}
 use Rattle.mt_base.specs.declared.partition.Partition.TheVariants.{Whole, Number}
@@ -16,7 +15,7 @@ use Rattle.root_commits.specs.part_name.declared.part.PartName.{PartName}
 use Rattle.root_commits.specs.part_set.declared.kept.Kept.{Kept}
 use Rattle.root_commits.specs.part_set.declared.run.Run.{Run}
 use Rattle.root_commits.specs.part_set.Parts.{IsInBlockOrder, StandsClear, kept_in, partition_rank}
-use Rattle.root_commits.specs.part_set.Runs.{EndsInOrder, IsBusyRun, IsMarked, IsMissing, IsRun, parts_of_run, with_mark}
+use Rattle.root_commits.specs.part_set.Runs.{EndsInOrder, IsBusyRun, IsMarked, IsRun, parts_of_run, with_mark}
 use Rattle.root_commits.proofs.PartSetItems.{item_first}
 use Rattle.root_commits.proofs.PartSetOrders.{block_low}
 use Rattle.root_commits.proofs.PartSetSwaps.{marked_names, named_ordered, pairs_across, pairs_back, run_parts}
@@ -76,7 +75,7 @@ module _ {P : Type 0} where
   -- ---- one name, one place
 
   -- no part stands clear before one of its name
-  not_clear : (a b : Kept P) → EndsInOrder a → a.name ≡ b.name → Clear a b → ⊥
+  pub not_clear : (a b : Kept P) → EndsInOrder a → a.name ≡ b.name → Clear a b → ⊥
   not_clear a b long same clear =
       let first : a.name.min_block ≡ b.name.min_block = ap (λ (n : PartName). n.min_block) same in
       let last : a.name.max_block ≡ b.name.max_block = ap (λ (n : PartName). n.max_block) same in
@@ -125,50 +124,6 @@ module _ {P : Type 0} where
       let within = is.within in
       let rest : length (drop run.first parts) ≡ length parts - run.first = length-drop run.first parts in
       length-take-le run.count (drop run.first parts) (omega (arith, within, rest))
-
-  first_named : (run : Run) (parts : List (Kept P)) (d : Kept P) → IsRun run parts → get_or (map name_of (parts_of_run run parts)) 0 d.name ≡ (get_or parts run.first d).name
-  first_named run parts d is =
-      let some = is.some in
-      let long = long_run run parts is in
-      let here : run.first + 0 ≡ run.first = omega arith in
-      get_or-map name_of (parts_of_run run parts) 0 d d.name (omega (arith, some, long))
-      ∙ ap name_of (get_or-take run.count (drop run.first parts) 0 d some ∙ (get_or-drop run.first parts 0 d ∙ ap (λ (n : ℕ). get_or parts n d) here))
-
-  -- the first parts of a run with these names are one with the first names
-  pub front_run : (n : ℕ) (run : Run) (names : List PartName) (parts : List (Kept P)) → 0 < n → n ≤ length names → IsBusyRun run names parts → IsBusyRun (record { first = run.first; count = n }) (take n names) parts
-  front_run n run names parts some within is =
-      let rest = drop run.first parts in
-      let inside = is.is.within in
-      let count : length names ≡ run.count = ap (λ (ns : List PartName). length ns) (sym is.named) ∙ (length-map (parts_of_run run parts) name_of ∙ long_run run parts is.is) in
-      let few : n ≤ run.count = omega (arith, within, count) in
-      let cut : take n (take run.count rest) ≡ take n rest = take-take n run.count rest few in
-      record {
-        is = record { some = some; within = omega (arith, inside, few) };
-        named = sym (take-map name_of n rest) ∙ (sym (take-take n run.count (map name_of rest) few) ∙ ap (λ (ns : List PartName). take n ns) (take-map name_of run.count rest ∙ is.named));
-        busy = subst (All (λ (k : Kept P). k.busy ≡ true)) cut (All-take (λ (k : Kept P). k.busy ≡ true) n (take run.count rest) is.busy);
-      }
-
-  -- where a name is missing no run has all of them
-  pub missing_none : (names : List PartName) (parts : List (Kept P)) (name : PartName) → IsMissing names parts name → (run : Run) → IsBusyRun run names parts → ⊥
-  missing_none names parts name missing run is =
-      let inside : missing.place < length names = slice_get_within names missing.place name missing.here in
-      missing.none (record { first = run.first; count = missing.place + 1 }) (front_run (missing.place + 1) run names parts (omega arith) (omega (arith, inside)) is)
-
-  -- one run alone has these names
-  pub one_run : (parts : List (Kept P)) → IsInBlockOrder parts → All EndsInOrder parts → (names : List PartName) (a b : Run) → IsBusyRun a names parts → IsBusyRun b names parts → a ≡ b
-  one_run parts ordered long names a b is_a is_b =
-      let some_a = is_a.is.some in
-      let some_b = is_b.is.some in
-      let in_a = is_a.is.within in
-      let in_b = is_b.is.within in
-      let some : 0 < length parts = omega (arith, some_a, in_a) in
-      let d = some_item parts some in
-      let named : (get_or parts a.first d).name ≡ (get_or parts b.first d).name =
-      sym (first_named a parts d is_a.is) ∙ (ap (λ (ns : List PartName). get_or ns 0 d.name) (is_a.named ∙ sym is_b.named) ∙ first_named b parts d is_b.is) in
-      let first : a.first ≡ b.first = one_place parts ordered long a.first b.first d (omega (arith, some_a, in_a)) (omega (arith, some_b, in_b)) named in
-      let count : a.count ≡ b.count =
-      sym (long_run a parts is_a.is) ∙ (sym (length-map (parts_of_run a parts) name_of) ∙ (ap (λ (ns : List PartName). length ns) (is_a.named ∙ sym is_b.named) ∙ (length-map (parts_of_run b parts) name_of ∙ long_run b parts is_b.is))) in
-      ap₂ (λ (f c : ℕ). record { first = f; count = c }) first count
 
   -- parts with marks have the names that they had
   pub marked_named : (busy : Bool) (ks : List (Kept P)) → map name_of (map (with_mark busy) ks) ≡ map name_of ks
@@ -225,7 +180,7 @@ module _ {P : Type 0} where
       own_all : (others : List (Kept P)) → All (λ (k : Kept P). own_of p k ≡ true) others → kept_in p (front ++ (others ++ back)) ≡ kept_in p front ++ (others ++ kept_in p back)
       own_all others own = filtered p others ∙ ap (λ (ks : List (Kept P)). kept_in p front ++ (ks ++ kept_in p back)) (all_pass (own_of p) others own)
 
-      mine_is : mine ≡ kept_in p front ++ (sources ++ kept_in p back)
+      pub mine_is : mine ≡ kept_in p front ++ (sources ++ kept_in p back)
       mine_is = ap (kept_in p) before_is ∙ own_all sources own_sources
 
       sides : (kept_in p front ≡ take run.first mine) × (kept_in p back ≡ drop (run.first + run.count) mine)

@@ -1,5 +1,5 @@
 -- What is taken up to be merged, and what becomes of it (docs/architecture.md, "The open root").
-use Rattle.std.specs.Prelude.{◌≡◌, ◌≢◌, ◌⊎◌, ℕ, Bool, true, false, List, Option, None, Some, Result, Ok, Err, All}
+use Rattle.std.specs.Prelude.{◌≡◌, ◌≢◌, ℕ, true, false, List, Option, None, Some, Result, Ok, Err, All, map}
 use Rattle.std.specs.List.{Contains as HasItem}
 use Rattle.std.specs.Option.{MatchOption}
 use Rattle.std.specs.Result.{MatchResult}
@@ -20,7 +20,7 @@ use Rattle.root_commits.specs.part_reader.declared.reading.Part.{Part}
 use Rattle.root_commits.specs.part_set.declared.kept.Kept.{Kept}
 use Rattle.root_commits.specs.part_set.declared.run.Run.{Run}
 use Rattle.root_commits.specs.part_set.Parts.{IsInBlockOrder, kept_in}
-use Rattle.root_commits.specs.part_set.Runs.{IsBusyRun, IsMarked, IsMissing, IsRun, names_of_parts, parts_of_run}
+use Rattle.root_commits.specs.part_set.Runs.{IsBusyRun, IsMarked, IsMissing, IsRun, cleared, names_of_parts, parts_of_run}
 use Rattle.root_commits.specs.part_set.Sets.{parts_of}
 use Rattle.root_commits.specs.part_writer.declared.loaded.Loaded.{Loaded}
 use Rattle.root_commits.specs.stage_dir.Stages.{Filled}
@@ -52,22 +52,48 @@ abbrev pub names_of_work : {F : Type 0} → Work F → List PartName
 names_of_work work = names_of_parts work.sources.items
 
 -- the sources of a work stand in this run: under their names, and with marks
-abbrev pub WorkStands : {F : Type 0} → CoreStore F → Work F → Run → Type 0
-WorkStands store work run = IsBusyRun run (names_of_work work) (parts_beside store work)
+abbrev pub SourcesStand : {F : Type 0} → CoreStore F → Work F → Run → Type 0
+SourcesStand store work run = IsBusyRun run (names_of_work work) (parts_beside store work)
+
+-- a work stands: its sources do, and its table is there with the schema that the work has
+pub record WorkStands {F : Type 0} (store : CoreStore F) (work : Work F) (run : Run) : Type 0 where
+  pub sources : SourcesStand store work run
+  pub made : Table
+  pub there : table_at store work.table ≡ Some made
+  pub schema_is : work.schema ≡ made.schema
 
 -- two works of one table have no source in common, by the sources' names
 abbrev pub AreApart : {F : Type 0} → Work F → Work F → Type 0
 AreApart work other = work.table ≡ other.table → (name : PartName) → HasItem (names_of_work work) name → HasItem (names_of_work other) name → ⊥
 
--- the parts of a run of a work's partition bear a mark now, or none any more, and nothing else changes
-pub record Marks {F : Type 0} (work : Work F) (run : Run) (busy : Bool) (old new : CoreStore F) : Type 0 where
-  pub marked : IsMarked work.partition run busy (parts_of old.set work.table) (parts_of new.set work.table)
+-- the parts of a run of a work's partition bear a mark now, and nothing else changes
+pub record Marks {F : Type 0} (work : Work F) (run : Run) (old new : CoreStore F) : Type 0 where
+  pub marked : IsMarked work.partition run true (parts_of old.set work.table) (parts_of new.set work.table)
   pub ordered : IsInBlockOrder (parts_of new.set work.table)
   pub others : (u : List ℕ) → u ≢ work.table → parts_of new.set u ≡ parts_of old.set u
   pub tables : new.tables.entries ≡ old.tables.entries
   pub mutations_are : new.mutations ≡ old.mutations
   pub length_is : new.length ≡ old.length
   pub opened_is : new.opened ≡ old.opened
+
+-- The parts of a work's table that have the names of its sources bear no mark any more, wherever they stand by now. All else is as it was.
+pub record Clears {F : Type 0} (work : Work F) (was now : Root F) : Type 0 where
+  pub cleared_are : parts_of now.store.set work.table ≡ map (cleared (names_of_work work)) (parts_of was.store.set work.table)
+  pub others : (u : List ℕ) → u ≢ work.table → parts_of now.store.set u ≡ parts_of was.store.set u
+  pub tables : now.store.tables.entries ≡ was.store.tables.entries
+  pub mutations_are : now.store.mutations ≡ was.store.mutations
+  pub length_is : now.store.length ≡ was.store.length
+  pub opened_is : now.store.opened ≡ was.store.opened
+  pub storage_is : now.storage ≡ was.storage
+
+-- no part that has the name of a source of the work bears a mark
+abbrev pub SourcesAreFree : {F : Type 0} → CoreStore F → Work F → Type 0
+SourcesAreFree {F} store work = All (λ (k : Kept (Part F)). HasItem (names_of_work work) k.name → k.busy ≡ false) (parts_of store.set work.table)
+
+-- no part of a table bears a mark, but for those that have the name of a source of the work
+abbrev pub NoOtherMark : {F : Type 0} → CoreStore F → Work F → Type 0
+NoOtherMark {F} store work =
+    (table : List ℕ) → All (λ (k : Kept (Part F)). k.busy ≡ true → (table ≡ work.table) × HasItem (names_of_work work) k.name) (parts_of store.set table)
 
 -- ---- what is taken up
 
@@ -79,7 +105,7 @@ pub record TakesUp {F : Type 0} (old new : CoreStore F) (work : Work F) (run : R
   pub is : IsRun run (parts_beside old work)
   pub sources_are : work.sources.items ≡ parts_of_run run (parts_beside old work)
   pub idle : All (λ (k : Kept (Part F)). k.busy ≡ false) work.sources.items
-  pub marks : Marks work run true old new
+  pub marks : Marks work run old new
 
 -- the same of an open root, of which nothing else changes
 pub record TakesWork {F : Type 0} (was now : Opened F) (work : Work F) (run : Run) : Type 0 where
@@ -130,16 +156,17 @@ MergesRun files_of m was now part result =
 -- The sources of a work stand in a run, and it is merged. Where that is refused their marks are gone.
 pub record PutsRun {F T S : Type 0} (files_of : F → Option Files) (work : Work F) (sealed : Filled) (loaded : Loaded) (was now : Opened F) (part : S) (result : Result T (Returned S)) : Type 0 where
   pub run : Run
-  pub there : WorkStands was.store work run
+  pub there : SourcesStand was.store work run
   pub mid : Root F
   pub merges : MergesRun files_of (merging_of work run sealed loaded) (root_in was) mid part result
-  pub left : MatchResult result (λ _. root_in now ≡ mid) (λ _. Marks work run false mid.store now.store × (now.storage ≡ mid.storage))
+  pub left : MatchResult result (λ _. root_in now ≡ mid) (λ _. Clears work mid (root_in now))
 
--- a source of a work is gone, the first that is: what was sealed comes back, and nothing changed
+-- The sources of a work don't stand in a run: the first that does not follow there with its mark is told, and what was sealed comes back. No source has
+-- a mark any more.
 pub record IsGone {F S : Type 0} (was now : Opened F) (work : Work F) (part : S) (name : PartName) (back : S) : Type 0 where
   pub missing : IsMissing (names_of_work work) (parts_beside was.store work) name
   pub back_is : back ≡ part
-  pub stays : now ≡ was
+  pub clears : Clears work (root_in was) (root_in now)
 
 -- what becomes of a work that is put
 abbrev pub PutsWork : {F S : Type 0} → (F → Option Files) → Work F → Filled → Loaded → Opened F → Opened F → S → Result (Put S) (Returned S) → Type 0
@@ -147,11 +174,9 @@ PutsWork files_of work sealed loaded was now part (Ok (put.Gone name back)) = Is
 PutsWork {S = S} files_of work sealed loaded was now part (Ok put.Done) = PutsRun {T = Put S} files_of work sealed loaded was now part (Ok put.Done)
 PutsWork {S = S} files_of work sealed loaded was now part (Err returned) = PutsRun {T = Put S} files_of work sealed loaded was now part (Err returned)
 
--- what becomes of a work that is let go: its sources lose their marks, where they stand in a run; else nothing changed
+-- what becomes of a work that is let go: its sources have no marks any more
 abbrev pub DropsWork : {F : Type 0} → Work F → Opened F → Opened F → Type 0
-DropsWork work was now =
-    ((run : Run) × WorkStands was.store work run × Marks work run false was.store now.store × (now.storage ≡ was.storage))
-    ⊎ (((run : Run) → WorkStands was.store work run → ⊥) × (now ≡ was))
+DropsWork work was now = Clears work (root_in was) (root_in now)
 
 -- Marks alone were changed: the root stands for what it stood for, a crash leaves what it left, and nothing else that is known of it changed.
 pub record StandsOn {F : Type 0} (files_of : F → Option Files) (was now : Opened F) : Type 0 where

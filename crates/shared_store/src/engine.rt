@@ -255,33 +255,30 @@ impl<F: Dir, R: Arm<Dir = F>, D: Disk<Arm = R>, A: Annals> Engine<F, R, D, A> {
         }
     }
 
-    /// Lets a work go: its sources lose their marks, where they stand there with them.
+    /// Lets a work go: no part of its table that has the name of a source bears a mark any more.
     pub fn drop_work(&mut self, work: Work<F>)
-        requires some { 0 < length work.sources.items }
         ensures drops { DropsWork work self.old self.new }
         ensures goes_on { GoesOn self.old self.new }
     {
         let Work {
             table,
             schema: _,
-            partition,
+            partition: _,
             sources,
         } = work;
         let set = &mut self.store.set;
-        match set.find_run(&table, partition, sources.as_slice()) {
-            Ok(run) => set.set_busy(&table, partition, run, false),
-            Err(_) => {}
-        }
+        set.clear_marks(&table, sources.as_slice());
     }
 
     /// Puts the part that was sealed of a work's merge in place of its sources, where these stand there under their
     /// names and with their marks, wherever that is by now: its name is published and settled, and the store has the
     /// part. It is no command: the history stays.
     ///
-    /// `Gone` exactly where a source does not stand there so. It is refused where the part's level would be greater
-    /// than may be, or the store was stopped, in this order; else only where memory ran out, or where the disk's count
-    /// of faults rose in this call. What was sealed comes back where it was not given to the disk. After a refusal the
-    /// sources have no marks any more, and the store is else as it was.
+    /// `Gone` exactly where they do not stand so: it tells the first that does not follow there with its mark. It is
+    /// refused where the part's level would be greater than may be, or the store was stopped, in this order; else only
+    /// where memory ran out, or where the disk's count of faults rose in this call. What was sealed comes back where it
+    /// was not given to the disk. After both no part that has the name of a source bears a mark any more, and the store
+    /// is else as it was.
     pub fn put_work(
         &mut self,
         alloc: Global,
@@ -302,6 +299,7 @@ impl<F: Dir, R: Arm<Dir = F>, D: Disk<Arm = R>, A: Annals> Engine<F, R, D, A> {
         let run = match store.set.find_run(&table, partition, sources.as_slice()) {
             Ok(run) => run,
             Err(name) => {
+                store.set.clear_marks(&table, sources.as_slice());
                 return Ok(Put::Gone {
                     part: name,
                     back: part,
@@ -311,7 +309,7 @@ impl<F: Dir, R: Arm<Dir = F>, D: Disk<Arm = R>, A: Annals> Engine<F, R, D, A> {
         match merge_run(alloc, store, &mut self.disk, &table, partition, run, part) {
             Ok(()) => Ok(Put::Done),
             Err(returned) => {
-                self.store.set.set_busy(&table, partition, run, false);
+                self.store.set.clear_marks(&table, sources.as_slice());
                 Err(returned)
             }
         }

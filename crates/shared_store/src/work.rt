@@ -38,7 +38,7 @@ pub struct Work<F> {
 pub enum Put<S> {
     /// Its part stands there.
     Done,
-    /// This source does not stand there any more with its mark, the first of them: what was sealed comes back.
+    /// This source does not follow there with its mark, the first of them: what was sealed comes back.
     Gone { part: PartName, back: S },
 }
 
