@@ -27,7 +27,7 @@ impl<P: Twin> Twin for Kept<P> {
 
 /// A table as it was when it was pinned: what is added later is not in it.
 ///
-/// It can't be let go: the set that pinned it takes it back.
+/// It is moved on or taken apart, never dropped: the set that pinned it takes it back.
 pub struct Snap<P> {
     pub schema: Schema,
     /// The table's parts, in block order.

@@ -28,8 +28,9 @@ use std::marker::Model;
 /// A root that is open: what is kept of it in memory, its disk, the annals of its commands, and the policy of its
 /// merges.
 ///
-/// Between two turns the store is sound, the names of the disk are those of its tables and parts, and the disk's count
-/// of faults is at least the one at opening, which is below the last of 64 bits.
+/// Between two turns the store is sound, and the disk's count of faults is at least the one at opening, which is below
+/// the last of 64 bits. While it is that one, the names of the disk are names of the store's tables and parts, and no
+/// others.
 #[derive(Drop)]
 pub struct Engine<F: Dir, R: Arm<Dir = F>, D: Disk<Arm = R>, A: Annals> {
     store: CoreStore<F>,

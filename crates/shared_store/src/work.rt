@@ -26,7 +26,7 @@ use std::alloc::Global;
 /// A merge that was taken up: some parts of a table's partition that follow each other, in block order, as they were
 /// before they got their marks, and the table's schema.
 ///
-/// It can't be let go: the root that gave it takes it back, put in its place or dropped.
+/// It is moved on or taken apart, never dropped: the root that gave it takes it back, to be put in its place or let go.
 pub struct Work<F> {
     pub table: Name,
     pub schema: Schema,
