@@ -81,4 +81,5 @@ pub record MaySwap {F : Type 0} (m : Merging) (name : PartName) (was : Root F) :
 -- a merge, whose part was sealed
 abbrev pub CommitsMerge : {F T S : Type 0} → (F → Option Files) → Merging → PartName → Root F → Root F → S → Result T (Returned S) → Type 0
 CommitsMerge files_of m name was now sealed result =
-    Commits (MaySwap m name was) (stopped_by was.store.opened was.storage.failed) (publication_of_merge m name) (EntersMerge files_of m name) was now sealed result
+    Commits (MaySwap m name was) (stopped_by was.store.opened was.storage.failed) (publication_of_merge m name)
+    (EntersMerge files_of m name) was now sealed result

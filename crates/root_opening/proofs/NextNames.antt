@@ -210,6 +210,7 @@ module _ {F : Type 0} (r : Root) (named : IsNamedRoot r) (store : CoreStore F) (
           order = All-weaker (λ (x : Kept (Part F)). IsSeen r.names.items r.names.items table x.name) (λ (x : Kept (Part F)). x.name.min_block ≤ x.name.max_block) (λ x seen. (read_soundly (record { table = table; name = x.name }) seen.here).1.order) (parts_of store.set table) (k.seen_parts table);
         };
     no_other = k.no_other;
+    mutations = k.mutations;
   }
 
 -- ---- the empty store

@@ -22,7 +22,7 @@ use Rattle.shared_store.proofs.PartSetMaps.{true_or_false}
 use Rattle.shared_store.specs.part_writer.declared.loaded.Loaded.{Loaded}
 use Rattle.shared_store.specs.stage_dir.Stages.{Filled}
 use Rattle.shared_store.specs.root_commits.Commits.{SameStore}
-use Rattle.shared_store.specs.root_commits.Merges.{EntersMerge, name_of_merge}
+use Rattle.shared_store.specs.root_commits.Merges.{EntersMerge, name_of_merge, sources_of}
 use Rattle.shared_store.specs.root_store.declared.store.CoreStore.{CoreStore}
 use Rattle.shared_store.specs.declared.work.Work.{Work}
 use Rattle.shared_store.specs.Engines.{Opened}
@@ -128,9 +128,9 @@ same_beside These was now same = λ t p other. ap (kept_in p) (same.parts t)
 
 -- ---- a work that was put in its place
 
-module _ {F : Type 0} (files_of : F → Option Files) (was mid new : Opened F) (work : Work F) (run : Run) (t : IsTaken files_of was mid work run) (sealed : Filled) (loaded : Loaded) (e : EntersMerge files_of (merging_of work run sealed loaded) mid.store new.store) where
+module _ {F : Type 0} (files_of : F → Option Files) (was mid new : Opened F) (work : Work F) (run : Run) (t : IsTaken files_of was mid work run) (sealed : Filled) (loaded : Loaded) (name : PartName) (name_is : name_of_merge (sources_of mid.store (merging_of work run sealed loaded)) ≡ Some name) (e : EntersMerge files_of (merging_of work run sealed loaded) name mid.store new.store) where
   abbrev one : Kept (Part F)
-  one = record { name = e.name; part = e.part; busy = false }
+  one = record { name = name; part = e.part; busy = false }
 
   abbrev merged : List (Kept (Part F))
   merged = run_in mid.store work run
@@ -139,7 +139,7 @@ module _ {F : Type 0} (files_of : F → Option Files) (was mid new : Opened F) (
   own_merged = sources_own work.partition run (parts_of mid.store.set work.table)
 
   own_one : All (IsOf work.partition) (one ∷ [])
-  own_one = All-cons (IsOf work.partition) one [] (merged_partition work.partition merged e.name e.name_is own_merged) (All-nil (IsOf work.partition))
+  own_one = All-cons (IsOf work.partition) one [] (merged_partition work.partition merged name name_is own_merged) (All-nil (IsOf work.partition))
 
   other_table : (u : List ℕ) → same_bytes work.table u ≡ false → u ≢ work.table
   other_table u differ same = let yes : same_bytes work.table u ≡ true = ap (same_bytes work.table) same ∙ itself_same work.table in false≢true (sym differ ∙ yes)
@@ -168,7 +168,7 @@ module _ {F : Type 0} (files_of : F → Option Files) (was mid new : Opened F) (
       ∙ sym (marked_length work.partition run true (parts_of was.store.set work.table) (parts_of mid.store.set work.table) t.takes.marks.marked))) in
       record {
         kept = one;
-        name_is = ap (λ (ks : List (Kept (Part F))). name_of_merge ks) (sym whole) ∙ (sym (marked_name work.sources.items) ∙ (ap (λ (ks : List (Kept (Part F))). name_of_merge ks) (sym are) ∙ e.name_is));
+        name_is = ap (λ (ks : List (Kept (Part F))). name_of_merge ks) (sym whole) ∙ (sym (marked_name work.sources.items) ∙ (ap (λ (ks : List (Kept (Part F))). name_of_merge ks) (sym are) ∙ name_is));
         now_is = alone work.partition (parts_of mid.store.set work.table) (parts_of new.store.set work.table) e.swapped.front e.swapped.back merged (one ∷ []) e.swapped.before_is e.swapped.after_is own_merged own_one many;
       }
     where

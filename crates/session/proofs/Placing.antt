@@ -36,9 +36,10 @@ use Rattle.shared_store.specs.root_store.Stores.{table_at}
 use Rattle.shared_store.proofs.RootStoreItems.{map_item}
 use Rattle.shared_store.specs.root_commits.declared.commits.Returned.{Returned}
 use Rattle.shared_store.specs.root_commits.Commits.{IsCause, SameStore}
-use Rattle.shared_store.specs.root_commits.Merges.{EntersMerge, MergesSources, SealsRows}
+use Rattle.shared_store.specs.part_name.declared.part.PartName.{PartName}
+use Rattle.shared_store.specs.root_commits.Merges.{EntersMerge, SealsRows}
 use Rattle.shared_store.specs.declared.work.Work.{Work}
-use Rattle.shared_store.specs.Engines.{GoesOn, GoesThroughCrashes, Opened}
+use Rattle.shared_store.specs.Engines.{GoesOn, GoesThroughCrashes, Opened, root_in}
 use Rattle.shared_store.specs.Levels.{KeepsGreatest, any_greatest, has_greatest, is_greatest}
 use Rattle.shared_store.specs.Works.{PutsRun, merging_of}
 use Rattle.shared_store.proofs.Levels.{HasGreatest, any_item, greatest_level, item_any, keeps_by, level_greatest, parts_same, there_greatest}
@@ -47,7 +48,7 @@ use Rattle.session.specs.Merges.{AddsNoCommand, KeepsRows, Merges, RefusesMerge,
 use Rattle.session.specs.Stops.{IsLineOf}
 use Rattle.session.proofs.Leaving.{goes_then, keeps_turn}
 use Rattle.session.proofs.Putting.{IsPut, IsRefusedPut, IsTaken, marked_levels, merges_sources, run_in, run_is, same_again, sealed_rows, sources_are, there_still}
-use Rattle.session.proofs.WorkLaws.{put_crashes, put_free, put_held, put_stands}
+use Rattle.session.proofs.WorkLaws.{MergesSources, put_crashes, put_free, put_held, put_stands}
 
 module _ {F : Type 0} (files_of : F → Option Files) (was mid new : Opened F) (work : Work F) (run : Run) (t : IsTaken files_of was mid work run) (goes : GoesOn mid new) where
   pub went : GoesOn was new
@@ -58,7 +59,7 @@ module _ {F : Type 0} (files_of : F → Option Files) (was mid new : Opened F) (
 
   -- ---- levels
 
-  module _ (sealed : Filled) (loaded : Loaded) (e : EntersMerge files_of (merging_of work run sealed loaded) mid.store new.store) (low : any_greatest work.sources.items ≡ false) where
+  module _ (sealed : Filled) (loaded : Loaded) (name : PartName) (e : EntersMerge files_of (merging_of work run sealed loaded) name mid.store new.store) (low : any_greatest work.sources.items ≡ false) where
     none_merged : any_greatest (run_in mid.store work run) ≡ false
     none_merged = ap (λ (ks : List (Kept (Part F))). any_greatest ks) (sources_are files_of was mid work run t) ∙ (marked_levels true work.sources.items ∙ low)
 
@@ -69,18 +70,18 @@ module _ {F : Type 0} (files_of : F → Option Files) (was mid new : Opened F) (
     in_new : (k : Kept (Part F)) → level_limit ≤ k.name.level → HasItem (parts_of mid.store.set work.table) k → HasGreatest new.store
     in_new k is has = record { table = work.table; kept = k; here = here; is = is }
       where
-        x : IsSwapped work.partition run (record { name = e.name; part = e.part; busy = false }) (parts_of mid.store.set work.table) new_parts
+        x : IsSwapped work.partition run (record { name = name; part = e.part; busy = false }) (parts_of mid.store.set work.table) new_parts
         x = e.swapped
 
-        now : HasItem (x.front ++ record { name = e.name; part = e.part; busy = false } ∷ x.back) k → HasItem new_parts k
+        now : HasItem (x.front ++ record { name = name; part = e.part; busy = false } ∷ x.back) k → HasItem new_parts k
         now there = subst (λ (ks : List (Kept (Part F))). HasItem ks k) (sym x.after_is) there
 
         here : HasItem new_parts k
         here = elim (Contains-append_cases x.front (run_in mid.store work run ++ x.back) k (subst (λ (ks : List (Kept (Part F))). HasItem ks k) x.before_is has)) [
-          | inl front ↦ now (Contains-append_left x.front (record { name = e.name; part = e.part; busy = false } ∷ x.back) k front)
+          | inl front ↦ now (Contains-append_left x.front (record { name = name; part = e.part; busy = false } ∷ x.back) k front)
           | inr rest ↦ elim (Contains-append_cases (run_in mid.store work run) x.back k rest) [
             | inl merged ↦ absurd (false≢true (sym none_merged ∙ item_any is_greatest (run_in mid.store work run) k merged (level_greatest k is)))
-            | inr back ↦ now (Contains-append_right x.front (record { name = e.name; part = e.part; busy = false } ∷ x.back) k (Contains-append_right (record { name = e.name; part = e.part; busy = false } ∷ []) x.back k back))
+            | inr back ↦ now (Contains-append_right x.front (record { name = name; part = e.part; busy = false } ∷ x.back) k (Contains-append_right (record { name = name; part = e.part; busy = false } ∷ []) x.back k back))
           ]
         ]
 
@@ -246,7 +247,7 @@ module _ {F T S : Type 0} (files_of : F → Option Files) (was mid new : Opened 
         keeps = keeps_turn was new gone;
         parts = record {
           free = λ none. put_free files_of was.store work run sealed loaded mid new part result t.goes_on.left none t.takes p;
-          levels = keeps_by was.store new.store goes.left.sound (greatest_stays files_of was mid new work run t goes sealed loaded d.enters d.low);
+          levels = keeps_by was.store new.store goes.left.sound (greatest_stays files_of was mid new work run t goes sealed loaded d.name d.enters d.low);
         };
         stopped = λ risen. absurd (not_risen risen);
         crashes = through;
@@ -269,7 +270,7 @@ module _ {F T S : Type 0} (files_of : F → Option Files) (was mid new : Opened 
     full = any_greatest work.sources.items
 
     kept : SameStore was.store new.store
-    kept = same_again files_of was mid work run t new.store d.marks
+    kept = same_again files_of was mid work run t new.storage (root_in new) d.clears
 
     stays : r.cause ≢ refused.Disk → new.storage ≡ was.storage
     stays other = d.stays calm other ∙ t.stands.storage_is

@@ -1,6 +1,5 @@
 -- A work from the moment it was taken up to the moment it is put or let go.
 use Rattle.std.proofs.Common.{◌≡◌, ◌≢◌, ◌⊎◌, ℕ, ◌+◌, ◌<◌, Bool, true, false, cond, ◌||◌, max, nat_le, nat_lt, List, [], ◌∷◌, ◌++◌, length, map, is_some, Option, Some, None, IfSome, Result, Ok, Err, refl, sym, ap, ◌∙◌, subst, inl, inr, arith}
-use Rattle.std.proofs.lemmas.Bool.{false≢true}
 use Rattle.std.proofs.lemmas.Bool.Decides.{nat_tests}
 use Rattle.std.proofs.lemmas.List.{length-map}
 use Rattle.std.proofs.lemmas.List.Elements.{All-map}
@@ -13,12 +12,10 @@ use Rattle.std.specs.Option.{MatchOption}
 use Rattle.mt_base.specs.Limits.{level_limit}
 use Rattle.mt_values.specs.declared.command.Entry.{Entry}
 use Rattle.mt_values.specs.declared.schema.Schema.{Schema}
-use Rattle.mt_values.specs.Grammar.{same_bytes}
 use Rattle.mt_values.specs.Values.{Row}
 use Rattle.mt_outside.specs.Causes.{Rose}
 use Rattle.mt_outside.specs.Files.{Files}
 use Rattle.replies.specs.mt_model.History.{History}
-use Rattle.replies.proofs.MtModelTables.{itself_same, same_is}
 use Rattle.shared_store.specs.part_name.declared.part.PartName.{PartName}
 use Rattle.shared_store.specs.part_name.Merged.{joined_name}
 use Rattle.shared_store.specs.part_reader.declared.reading.Part.{Part}
@@ -27,9 +24,8 @@ use Rattle.shared_store.specs.part_writer.declared.loaded.Loaded.{Loaded}
 use Rattle.shared_store.specs.part_set.declared.kept.Kept.{Kept}
 use Rattle.shared_store.specs.part_set.declared.run.Run.{Run}
 use Rattle.shared_store.specs.part_set.Parts.{IsInBlockOrder}
-use Rattle.shared_store.specs.part_set.Runs.{EndsInOrder, IsMarked, parts_of_run, with_mark}
+use Rattle.shared_store.specs.part_set.Runs.{EndsInOrder, parts_of_run, with_mark}
 use Rattle.shared_store.specs.part_set.Sets.{parts_of}
-use Rattle.shared_store.proofs.PartSetMaps.{true_or_false}
 use Rattle.shared_store.specs.durable_commit.declared.causes.Limit.TheVariants as limit
 use Rattle.shared_store.specs.durable_commit.declared.causes.Refused.{Refused}
 use Rattle.shared_store.specs.durable_commit.declared.causes.Refused.TheVariants as refused
@@ -41,19 +37,21 @@ use Rattle.shared_store.specs.root_store.declared.store.Table.{Table}
 use Rattle.shared_store.specs.root_store.Stores.{CoreStands, table_at}
 use Rattle.shared_store.specs.root_commits.declared.commits.Returned.{Returned}
 use Rattle.shared_store.specs.root_commits.Commits.{IsCause, SameStore}
-use Rattle.shared_store.specs.root_commits.Merges.{EntersMerge, HoldsMerge, IsSealedMerge, Merging, MergesSources, SealsRows, name_of_merge, sources_of, within_levels}
+use Rattle.shared_store.specs.root_commits.Merges.{EntersMerge, HoldsMerge, Merging, SealsMergeOfParts, SealsRows, name_of_merge, sources_of, within_levels}
 use Rattle.shared_store.specs.root_commits.Publications.{IsKeptBack, Publishes, publication_of_merge}
 use Rattle.shared_store.specs.root_commits.Turns.{CommitsMerge, Root}
 use Rattle.shared_store.specs.declared.work.Work.{Work}
 use Rattle.shared_store.specs.Engines.{GoesOn, Opened, root_in}
 use Rattle.shared_store.specs.Levels.{any_greatest, is_greatest}
-use Rattle.shared_store.specs.Works.{DropsWork, IsGone, Marks, MergesRun, PutsRun, StandsOn, TakesUp, WorkStands, merging_of, names_of_work, parts_beside}
+use Rattle.shared_store.specs.Works.{Clears, DropsWork, IsGone, MergesRun, PutsRun, SourcesStand, StandsOn, TakesUp, merging_of, names_of_work, parts_beside}
+use Rattle.shared_store.proofs.Freed.{cleared_back}
+use Rattle.shared_store.proofs.Marked.{cleared_after}
 use Rattle.final_fold.specs.row_merge.Merged.{ArePartRows}
 use Rattle.session.specs.Merges.{SealsWork}
 use Rattle.session.proofs.GivenUp.{IsAsBefore}
 use Rattle.session.proofs.PartRows.{rows_of_sources}
-use Rattle.session.proofs.Taken.{kept_long, kept_order, none_missing, ordered_before, run_marked, same_run, some_sources, sources_own, unmarked}
-use Rattle.session.proofs.WorkLaws.{merged_by_history, taken_there}
+use Rattle.session.proofs.Taken.{kept_long, kept_order, none_missing, ordered_before, run_marked, same_run, some_sources, sources_own}
+use Rattle.session.proofs.WorkLaws.{MergesSources, merged_by_history, taken_there}
 
 -- A work was taken up, and but for its marks the root is as it was.
 pub record IsTaken {F : Type 0} (files_of : F → Option Files) (was now : Opened F) (work : Work F) (run : Run) : Type 0 where
@@ -155,41 +153,24 @@ module _ {F : Type 0} (files_of : F → Option Files) (was mid : Opened F) (work
 
   -- ---- without its marks
 
-  pub same_again : (new : CoreStore F) → Marks work run false mid.store new → SameStore was.store new
-  same_again new m = record {
-    tables = m.tables ∙ same_tables;
-    parts = λ u. elim (true_or_false (same_bytes work.table u)) [
-      | inl same ↦ subst (λ (v : List ℕ). parts_of new.set v ≡ parts_of was.store.set v) (same_is work.table u same) here
-      | inr differ ↦ m.others u (other u differ) ∙ t.takes.marks.others u (other u differ)
-    ];
-    mutations_are = m.mutations_are ∙ t.takes.marks.mutations_are;
-    length_is = m.length_is ∙ t.takes.marks.length_is;
-    opened_is = m.opened_is ∙ t.takes.marks.opened_is;
-  }
-    where
-      other : (u : List ℕ) → same_bytes work.table u ≡ false → u ≢ work.table
-      other u differ same = let yes : same_bytes work.table u ≡ true = ap (same_bytes work.table) same ∙ itself_same work.table in false≢true (sym differ ∙ yes)
-
-      here : parts_of new.set work.table ≡ parts_of was.store.set work.table
-      here =
-          unmarked work.partition run (parts_of was.store.set work.table) t.takes.is ordered_was long_was (parts_of mid.store.set work.table) t.takes.marks.marked
-          (subst (All own) t.takes.sources_are t.takes.idle) long_mid t.takes.marks.ordered (parts_of new.set work.table) m.marked
+  pub same_again : (storage : Storage) (new : Root F) → Clears work (record { store = mid.store; storage = storage }) new → SameStore was.store new.store
+  same_again storage new c = cleared_back was.store mid.store work run t.takes t.goes_on.left.sound storage new c
 
   -- ---- what was sealed for it
 
   -- ---- where it stands
 
-  pub work_stands : WorkStands mid.store work run
+  pub work_stands : SourcesStand mid.store work run
   work_stands = taken_there was.store mid work run t.goes_on.left t.takes
 
-  pub the_run : (r : Run) → WorkStands mid.store work r → r ≡ run
+  pub the_run : (r : Run) → SourcesStand mid.store work r → r ≡ run
   the_run r stands =
       same_run (parts_beside mid.store work) (kept_order work.partition (parts_of mid.store.set work.table) t.takes.marks.ordered) (kept_long work.partition (parts_of mid.store.set work.table) long_mid) r run stands.is work_stands.is
       (stands.named ∙ sym work_stands.named)
 
   module _ (sealed : Filled) (loaded : Loaded) (seals : SealsWork files_of work sealed.files loaded) where
     -- it is a merge of the rows of the work's parts, whatever history the store stands for
-    sealed_merge : (h : History) → CoreStands files_of h mid.store → IsSealedMerge files_of t.takes.made.schema mid.store (merging_of work run sealed loaded)
+    sealed_merge : (h : History) → CoreStands files_of h mid.store → SealsMergeOfParts files_of t.takes.made.schema mid.store (merging_of work run sealed loaded)
     sealed_merge h stands inputs held =
         let made = t.takes.made in
         let Q = λ (schema : Schema) (k : Kept (Part F)) (r : List Row). PartHolds files_of schema k.part r in
@@ -231,9 +212,7 @@ module _ {F : Type 0} (files_of : F → Option Files) (was mid : Opened F) (work
   -- ---- a work that is let go
 
   pub let_go : (new : Opened F) → DropsWork work mid new → IsAsBefore was new
-  let_go new (inl (r, stands, marks, stays)) =
-      record { same = same_again new.store (subst (λ (x : Run). Marks work x false mid.store new.store) (the_run r stands) marks); storage_is = stays ∙ t.stands.storage_is }
-  let_go new (inr (none, same)) = absurd (none run work_stands)
+  let_go new c = record { same = same_again mid.storage (root_in new) c; storage_is = c.storage_is ∙ t.stands.storage_is }
 
   -- ---- a work that is put
 
@@ -280,30 +259,20 @@ module _ {F : Type 0} (files_of : F → Option Files) (was mid : Opened F) (work
 pub record IsPut {F : Type 0} (files_of : F → Option Files) (mid new : Opened F) (work : Work F) (run : Run) (sealed : Filled) (loaded : Loaded) : Type 0 where
   pub low : any_greatest work.sources.items ≡ false
   pub shown : IsCause (stopped_by mid.store.opened mid.storage.failed) None
-  pub enters : EntersMerge files_of (merging_of work run sealed loaded) mid.store new.store
+  pub name : PartName
+  pub named : name_of_merge (sources_of mid.store (merging_of work run sealed loaded)) ≡ Some name
+  pub enters : EntersMerge files_of (merging_of work run sealed loaded) name mid.store new.store
   pub annals : new.storage.annals ≡ mid.storage.annals
   pub calm : sealed.failed ≡ 0 → new.storage.failed ≡ mid.storage.failed
 
 -- It was refused, and the sources have no marks any more.
 pub record IsRefusedPut {F S : Type 0} (mid new : Opened F) (work : Work F) (run : Run) (sealed : Filled) (part : S) (r : Returned S) : Type 0 where
   pub shown : IsCause (cond (any_greatest work.sources.items) (Some (refused.Limit limit.Levels)) (stopped_by mid.store.opened mid.storage.failed)) (Some r.cause)
-  pub marks : Marks work run false mid.store new.store
+  pub clears : Clears work (record { store = mid.store; storage = new.storage }) (root_in new)
   pub annals : new.storage.annals ≡ mid.storage.annals
   pub stays : sealed.failed ≡ 0 → r.cause ≢ refused.Disk → new.storage ≡ mid.storage
   pub rose : r.cause ≡ refused.Disk → Rose mid.storage.failed new.storage.failed
   pub returned : IfSome r.back (λ b. b ≡ part)
-
--- marks of a store that keeps the same
-marks_after : {F : Type 0} (work : Work F) (run : Run) (old between new : CoreStore F) → SameStore old between → Marks work run false between new → Marks work run false old new
-marks_after {F = F} work run old between new same m = record {
-  marked = subst (λ (ks : List (Kept (Part F))). IsMarked work.partition run false ks (parts_of new.set work.table)) (same.parts work.table) m.marked;
-  ordered = m.ordered;
-  others = λ u other. m.others u other ∙ same.parts u;
-  tables = m.tables ∙ same.tables;
-  mutations_are = m.mutations_are ∙ same.mutations_are;
-  length_is = m.length_is ∙ same.length_is;
-  opened_is = m.opened_is ∙ same.opened_is;
-}
 
 -- what becomes of the outside where a merge is refused
 module _ {S : Type 0} (p : Publication) (none : p.entry ≡ None) (was now : Storage) (part : S) (cause : Refused) where
@@ -352,7 +321,7 @@ module _ {F : Type 0} (files_of : F → Option Files) (was mid new : Opened F) (
         no_levels is = cc
 
         by : any_greatest work.sources.items ≡ false → (name : PartName) → CommitsMerge {F = F} {T = T} {S = S} files_of merging_now name (root_in mid) (root_in new) part (Ok x) → IsPut files_of mid new work run sealed loaded
-        by low name d = record { low = low; shown = d.cause; enters = d.enters; annals = d.turn.annals; calm = d.turn.calm }
+        by low name d = record { low = low; shown = d.cause; name = name; named = d.from.named; enters = d.enters; annals = d.turn.annals; calm = d.turn.calm }
 
     pub put_refused : (r : Returned S) → PutsRun {F = F} {T = T} {S = S} files_of work sealed loaded mid new part (Err r) → IsRefusedPut mid new work run sealed part r
     put_refused r p = elim (merged_as files_of was mid work run t sealed loaded {T = T} {S = S} p.mid part (Err r) (came (Err r) p)) [
@@ -360,8 +329,8 @@ module _ {F : Type 0} (files_of : F → Option Files) (was mid new : Opened F) (
       | inr (low, name, d) ↦ by_commit low name d
     ]
       where
-        marks : Marks work run false p.mid.store new.store
-        marks = subst (λ (x : Run). Marks work x false p.mid.store new.store) (run_is (Err r) p) p.left.0
+        clears : Clears work (record { store = p.mid.store; storage = new.storage }) (root_in new)
+        clears = let c = p.left in record { cleared_are = c.cleared_are; others = c.others; tables = c.tables; mutations_are = c.mutations_are; length_is = c.length_is; opened_is = c.opened_is; storage_is = refl }
 
         same_cause : ◌≡◌ {A = Result T (Returned S)} (Err r) (Err (record { cause = refused.Limit limit.Levels; back = Some part })) → r.cause ≡ refused.Limit limit.Levels
         same_cause is = let one : r ≡ record { cause = refused.Limit limit.Levels; back = Some part } = cc in ap (λ (x : Returned S). x.cause) one
@@ -371,10 +340,10 @@ module _ {F : Type 0} (files_of : F → Option Files) (was mid new : Opened F) (
 
         by_level : any_greatest work.sources.items ≡ true → r.cause ≡ refused.Limit limit.Levels → r.back ≡ Some part → p.mid ≡ root_in mid → IsRefusedPut mid new work run sealed part r
         by_level full cause back same =
-            let stays : new.storage ≡ mid.storage = p.left.1 ∙ ap (λ (o : Root F). o.storage) same in
+            let stays : new.storage ≡ mid.storage = p.left.storage_is ∙ ap (λ (o : Root F). o.storage) same in
             record {
               shown = subst (λ (b : Bool). IsCause (cond b (Some (refused.Limit limit.Levels)) (stopped_by mid.store.opened mid.storage.failed)) (Some r.cause)) (sym full) (ap (λ (c : Refused). Some c) cause);
-              marks = subst (λ (o : Root F). Marks work run false o.store new.store) same marks;
+              clears = subst (λ (o : Root F). Clears work (record { store = o.store; storage = new.storage }) (root_in new)) same clears;
               annals = ap (λ (s : Storage). s.annals) stays;
               stays = λ _ _. stays;
               rose = λ disk. let bad : refused.Limit limit.Levels ≡ refused.Disk = sym cause ∙ disk in cc;
@@ -384,10 +353,10 @@ module _ {F : Type 0} (files_of : F → Option Files) (was mid new : Opened F) (
         by_commit : any_greatest work.sources.items ≡ false → (name : PartName) → CommitsMerge {F = F} {T = T} {S = S} files_of merging_now name (root_in mid) p.mid part (Err r) → IsRefusedPut mid new work run sealed part r
         by_commit low name d =
             let pub_of = publication_of_merge merging_now name in
-            let turn = subst (λ (s : Storage). Publishes {T = T} {S = S} pub_of mid.storage s part (Err r)) (sym p.left.1) d.turn in
+            let turn = subst (λ (s : Storage). Publishes {T = T} {S = S} pub_of mid.storage s part (Err r)) (sym p.left.storage_is) d.turn in
             record {
               shown = subst (λ (b : Bool). IsCause (cond b (Some (refused.Limit limit.Levels)) (stopped_by mid.store.opened mid.storage.failed)) (Some r.cause)) (sym low) d.cause;
-              marks = marks_after work run mid.store p.mid.store new.store d.enters marks;
+              clears = cleared_after work (record { store = mid.store; storage = new.storage }) (record { store = p.mid.store; storage = new.storage }) (root_in new) d.enters clears refl;
               annals = annals_stay pub_of refl mid.storage new.storage part r.cause r.back turn;
               stays = storage_stays pub_of refl mid.storage new.storage part r.cause r.back turn;
               rose = disk_rose pub_of refl mid.storage new.storage part r.cause r.back turn;

@@ -84,13 +84,6 @@ module _ {P : Type 0} where
 
   -- ---- marks
 
-  -- parts without marks, with marks and without them again
-  pub mark_twice : (ks : List (Kept P)) → All IsIdle ks → map (with_mark false) (map (with_mark true) ks) ≡ ks
-  mark_twice [] idle = refl
-  mark_twice (k ∷ ks) idle =
-      let here : with_mark false k ≡ k = ap (λ (b : Bool). record { name = k.name; part = k.part; busy = b }) (sym (All-head IsIdle k ks idle)) in
-      ap₂ (λ (x : Kept P) (xs : List (Kept P)). x ∷ xs) here (mark_twice ks (All-tail IsIdle k ks idle))
-
   -- ---- a run among the parts of its partition
 
   module _ (p : Partition) (run : Run) (before : List (Kept P)) (is_run : IsRun run (kept_in p before)) (ordered : IsInBlockOrder before) (long : All EndsInOrder before) where
@@ -169,25 +162,6 @@ module _ {P : Type 0} where
       -- the run has the same parts, with marks
       pub run_marked : parts_of_run run (kept_in p after) ≡ marked
       run_marked = ap (λ (ks : List (Kept P)). parts_of_run run (kept_in p ks)) m.after_is ∙ run_now m.front m.back m.before_is marked marked_own as_many
-
-      some_marked : 0 < length marked
-      some_marked = let count = as_many in let some = is_run.some in omega (arith, count, some)
-
-      -- and without them again all is as it was
-      pub unmarked : All IsIdle sources → All EndsInOrder after → IsInBlockOrder after → (last : List (Kept P)) → IsMarked p run false after last → last ≡ before
-      unmarked idle long_now ordered_now last n =
-          let from : after ≡ n.front ++ (marked ++ n.back) = n.before_is ∙ ap (λ (ks : List (Kept P)). n.front ++ (ks ++ n.back)) run_marked in
-          let same : m.front ++ (marked ++ m.back) ≡ n.front ++ (marked ++ n.back) = sym m.after_is ∙ from in
-          let front : m.front ≡ n.front =
-          one_place_of marked some_marked m.front m.back n.front n.back (subst (All EndsInOrder) m.after_is long_now) (subst (λ (ks : List (Kept P)). IsInBlockOrder ks) m.after_is ordered_now) same in
-          let rest : marked ++ m.back ≡ marked ++ n.back =
-          sym (drop_front m.front (marked ++ m.back)) ∙ (ap (λ (ks : List (Kept P)). drop (length m.front) ks) same
-          ∙ (ap (λ (ks : List (Kept P)). drop (length ks) (n.front ++ (marked ++ n.back))) front ∙ drop_front n.front (marked ++ n.back))) in
-          let back : m.back ≡ n.back = sym (drop_front marked m.back) ∙ (ap (λ (ks : List (Kept P)). drop (length marked) ks) rest ∙ drop_front marked n.back) in
-          n.after_is
-          ∙ (ap (λ (ks : List (Kept P)). n.front ++ (map (with_mark false) ks ++ n.back)) run_marked
-          ∙ (ap (λ (ks : List (Kept P)). n.front ++ (ks ++ n.back)) (mark_twice sources idle)
-          ∙ (ap₂ (λ (ks ls : List (Kept P)). ks ++ (sources ++ ls)) (sym front) (sym back) ∙ sym m.before_is)))
 
   -- the parts stood in order before they had marks
   pub ordered_before : (p : Partition) (run : Run) (busy : Bool) (before after : List (Kept P)) → IsMarked p run busy before after → IsInBlockOrder after → IsInBlockOrder before

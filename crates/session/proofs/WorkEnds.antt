@@ -59,7 +59,7 @@ module _ {F : Type 0} (files_of : F → Option Files) (known : Type 0) (was mid 
         let d = put_done files_of was mid new work run t part.sealed part.loaded part put.Done p in
         subst (λ (r : Result (Option (List ℕ)) NoMemory). Ends r × Parts r) (sym says) (
           by_arm (Ok None) (merged files_of was mid new work run t goes known part.sealed part.loaded calm seals part (Ok put.Done) p d full arm_was),
-          (put_beside files_of was mid new work run t part.sealed part.loaded d.enters, λ _ whole. put_whole files_of was mid new work run t part.sealed part.loaded d.enters whole),
+          (put_beside files_of was mid new work run t part.sealed part.loaded d.name d.named d.enters, λ _ whole. put_whole files_of was mid new work run t part.sealed part.loaded d.name d.named d.enters whole),
         )
     by_put (Ok (put.Gone name back)) seals gone result says = absurd (none_gone files_of was mid work run t new part name back gone)
     by_put (Err r) seals p (Ok None) says = absurd says
