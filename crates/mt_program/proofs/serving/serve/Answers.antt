@@ -1,4 +1,4 @@
-use Rattle.std.proofs.Common.{◌∙◌, ◌∷◌, ◌++◌, [], refl, subst, ap, arith, ◌+◌, drop}
+use Rattle.std.proofs.Common.{◌∙◌, ◌∷◌, ◌++◌, [], Ok, refl, subst, ap, arith, ◌+◌, drop}
 use Rattle.mt_values.specs.Script.{statements_of}
 use Rattle.root_log.specs.root_store.Crashes.{Storage}
 use Rattle.mt_program.proofs.ServedScripts.{follows, served_none, served_all, served_so_far, served_unanswered, served_more, served_cut, turned, no_statement, nothing_left, one_statement, is_written, Found, Used, used_within}
