@@ -1,5 +1,5 @@
 -- The turns of an INSERT: one for each partition of its rows, in a turn of its own (docs/definitions-of-runs.md, "Turns").
-use Rattle.std.specs.Prelude.{◌≡◌, ◌≢◌, ◌⊎◌, ◌+◌, ℕ, true, false, List, [], ◌∷◌, ◌++◌, All, length, map, reverse, Option, Some, Result, Ok, Err}
+use Rattle.std.specs.Prelude.{◌≡◌, ◌≢◌, ◌⊎◌, ◌+◌, ℕ, true, false, List, [], ◌∷◌, ◌++◌, All, length, map, reverse, IsSome, Option, Some, Result, Ok, Err}
 use Rattle.mt_base.specs.declared.memory.NoMemory.{NoMemory}
 use Rattle.mt_values.specs.declared.command.Command.{Command}
 use Rattle.mt_values.specs.declared.schema.Schema.{Schema}
@@ -61,6 +61,12 @@ pub record IsPartAt {F S : Type 0} (store : CoreStore F) (table : List ℕ) (s :
 pub record ArePartsAt {F S : Type 0} (store : CoreStore F) (table : List ℕ) (parts : List (SealedBlock S)) (schema : Schema) : Type 0 where
   pub has : schema_kept (table_at store table) ≡ Some schema
   pub are : All (IsPartFor schema) (in_turn parts)
+
+-- a table is there, the blocks of parts are rows for it, and no call of their stages failed (docs/definitions-of-runs.md, "Turns")
+pub record MayHaveTurns {F S : Type 0} (store : CoreStore F) (table : List ℕ) (parts : List (SealedBlock S)) : Type 0 where
+  pub there : IsSome (table_at store table)
+  pub rows : (schema : Schema) → schema_kept (table_at store table) ≡ Some schema → All (IsRowsFor schema table) (in_turn parts)
+  pub none_failed : All NoneFailed (in_turn parts)
 
 -- ---- the parts that are added
 

@@ -12,7 +12,7 @@ ghost use Rattle.shared_store.specs.root_store.Stores.{table_at};
 ghost use Rattle.shared_store.specs.Engines.{schema_kept};
 ghost use Rattle.session.specs.Answers.{Answers, Knows, met};
 ghost use Rattle.session.specs.Lapses.{Accounts, Leaves, Never, counts, lapse};
-ghost use Rattle.session.specs.Turns.{AddsParts, ArePartsAt, IsAcceptedAs, IsPartAt, IsRowsFor, NoneFailed, TakesTurn, commands_in_turn, in_turn, part_command, replied};
+ghost use Rattle.session.specs.Turns.{AddsParts, ArePartsAt, IsAcceptedAs, IsPartAt, IsRowsFor, MayHaveTurns, NoneFailed, TakesTurn, commands_in_turn, in_turn, part_command, replied};
 
 use crate::sealing::{SealedBlock, give_back_part, give_back_parts};
 use crate::stopped::refused_line;
@@ -100,11 +100,7 @@ pub fn commit_parts<F: Dir, R: Arm<Dir = F>, D: Disk<Arm = R>, A: Annals>(
     mut parts: Vec<SealedBlock<R::Stage>>,
     unchanged: Reply,
 ) -> Result<Reply, NoMemory>
-    requires there { IsSome (table_at engine.old.store table.now) }
-    requires rows { (schema : Schema)
-        → schema_kept (table_at engine.old.store table.now) ≡ Some schema
-        → All (IsRowsFor schema table.now) (in_turn parts.items) }
-    requires none_failed { All NoneFailed (in_turn parts.items) }
+    requires ready { MayHaveTurns engine.old.store table.now parts.items }
     requires unchanged { unchanged ≡ ok_line engine.old.store.length }
 
     // What is answered, and why.

@@ -111,18 +111,19 @@ returns-in-Err-clause-answers g c = λ kept tells knows.
     (line_of_stage here.store.opened here.storage.failed arm (g.R.Arm.failed c.args.arm.now) error reply n line (λ e. c.in-Err.ensures.cause.failed (ap Err e)) f))
 
 -- the turns of its parts
-pub commit_parts-requires-clause-there : goal.commit_parts-requires-clause-there
-commit_parts-requires-clause-there g c κs within =
+pub commit_parts-requires-clause-ready : goal.commit_parts-requires-clause-ready
+commit_parts-requires-clause-ready g c κs within =
     let table = kept_as (table_at c.args.engine.now.store c.args.text.now.table) c.in-Some.schema (sym c.in-Some.is ∙ c.in_ok-schema.ensures.schema) in
-    subst IsSome (sym table.there) refl
-
-pub commit_parts-requires-clause-rows : goal.commit_parts-requires-clause-rows
-commit_parts-requires-clause-rows g c κs within = λ schema has.
-    let name = c.args.text.now.table in
-    let signed = rows_signed c.args.text.now c.in-Some.schema c.in-Ok.block.rows c.in-Ok.ensures.rows in
-    let same = one_schema (schema_kept (table_at c.args.engine.now.store name)) c.in-Some.schema schema (sym c.in_ok-schema.ensures.schema ∙ c.in-Some.is) has in
-    subst (λ (s : Schema). All (IsRowsFor s name) (in_turn c.in-Ok-seal_blocks.parts.items)) same
-    (parts_come c.in-Some.schema name c.in-Ok.block.rows c.in_ok-blocks.blocks.items c.in-Ok-seal_blocks.parts.items c.in-Ok-seal_blocks.ensures.blocks (c.in_ok-blocks.ensures.inserts name c.in-Ok.ensures.values signed))
+    record {
+      there = subst IsSome (sym table.there) refl;
+      rows = λ schema has.
+          let name = c.args.text.now.table in
+          let signed = rows_signed c.args.text.now c.in-Some.schema c.in-Ok.block.rows c.in-Ok.ensures.rows in
+          let same = one_schema (schema_kept (table_at c.args.engine.now.store name)) c.in-Some.schema schema (sym c.in_ok-schema.ensures.schema ∙ c.in-Some.is) has in
+          subst (λ (s : Schema). All (IsRowsFor s name) (in_turn c.in-Ok-seal_blocks.parts.items)) same
+          (parts_come c.in-Some.schema name c.in-Ok.block.rows c.in_ok-blocks.blocks.items c.in-Ok-seal_blocks.parts.items c.in-Ok-seal_blocks.ensures.blocks (c.in_ok-blocks.ensures.inserts name c.in-Ok.ensures.values signed));
+      none_failed = c.in-Ok-seal_blocks.ensures.none_failed;
+    }
 
 pub commit_parts-requires-clause-unchanged : goal.commit_parts-requires-clause-unchanged
 commit_parts-requires-clause-unchanged g c κs within = c.in_ok-unchanged.ensures ∙ ap ok_line c.look.ensures

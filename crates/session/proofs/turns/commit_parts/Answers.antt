@@ -1,5 +1,6 @@
 use Rattle.std.proofs.Common.{◌≡◌, ◌∷◌, [], ℕ, List, Ok, Err, length, refl, sym, ◌∙◌, subst, arith}
 use Rattle.mt_values.specs.declared.statement.Statement.TheVariants as statement
+use Rattle.shared_store.specs.root_store.Stores.{table_at}
 use Rattle.session.specs.declared.sealing.SealedBlock.{SealedBlock}
 use Rattle.session.specs.declared.turns.TurnReply.{TurnReply}
 use Rattle.session.specs.Answers.{Answered, EndsUnanswered, met}
@@ -7,18 +8,21 @@ use Rattle.session.specs.Lapses.{Accounts, Never, counts, lapse}
 use Rattle.session.specs.Turns.{IsAcceptedAs, IsRowsFor, NoneFailed, TakesTurn, part_command, reply_in}
 use Rattle.session.proofs.Adding.{adds_then}
 use Rattle.session.proofs.Leaving.{arm_stays, arm_stays_on}
-use Rattle.session.proofs.Running.{accounts_next, counted, leaves_next, of_next, of_rest, run_accounts, run_begins, run_done, run_ended, run_on, run_refused}
+use Rattle.session.proofs.Running.{accounts_next, counted, leaves_next, of_next, of_rest, run_accounts, run_begins, run_done, run_ended, run_on, run_refused, still_there}
 use Rattle.session.proofs.turns.commit_parts.Goals as goal
 
 pub turns-init : goal.turns-init
 turns-init g c = record { run = run_begins g.F.Dir.files c.args.table.now c.args.parts.items c.args.engine.now; reply = c.requires.unchanged; arm = arm_stays g.R.Arm c.args.arm.now c.args.arm.now refl refl }
 
+pub commit_block-requires-clause-there : goal.commit_block-requires-clause-there
+commit_block-requires-clause-there g c κs within = still_there (table_at c.turns.engine.store c.args.table.now) (table_at c.args.engine.now.store c.args.table.now) c.turns.invariant.run.keeps c.requires.ready.there
+
 pub commit_block-requires-clause-rows : goal.commit_block-requires-clause-rows
 commit_block-requires-clause-rows g c κs within = λ schema has.
-    of_next g.F.Dir.files _ c.turns.invariant.run c.pop.new.self.items c.in-Some.sealed c.in-Some.ensures.items (IsRowsFor schema c.args.table.now) (c.requires.rows schema (sym c.turns.invariant.run.keeps ∙ has))
+    of_next g.F.Dir.files _ c.turns.invariant.run c.pop.new.self.items c.in-Some.sealed c.in-Some.ensures.items (IsRowsFor schema c.args.table.now) (c.requires.ready.rows schema (sym c.turns.invariant.run.keeps ∙ has))
 
 pub commit_block-requires-clause-none_failed : goal.commit_block-requires-clause-none_failed
-commit_block-requires-clause-none_failed g c κs within = of_next g.F.Dir.files _ c.turns.invariant.run c.pop.new.self.items c.in-Some.sealed c.in-Some.ensures.items NoneFailed c.requires.none_failed
+commit_block-requires-clause-none_failed g c κs within = of_next g.F.Dir.files _ c.turns.invariant.run c.pop.new.self.items c.in-Some.sealed c.in-Some.ensures.items NoneFailed c.requires.ready.none_failed
 
 -- a part was added
 pub overflow_add-accepted : goal.overflow_add-accepted
@@ -48,13 +52,13 @@ pub returns-in-Ok-Refused-clause-arm : goal.returns-in-Ok-Refused-clause-arm
 returns-in-Ok-Refused-clause-arm g c =
     let on = arm_stays_on g.R.Arm c.args.arm.now c.turns.arm c.commit_block.new.arm c.turns.invariant.arm c.commit_block.ensures.arm.tells (c.commit_block.ensures.arm.calm (λ no. no)) in
     arm_stays_on g.R.Arm c.args.arm.now c.commit_block.new.arm c.give_back_parts.new.arm on c.give_back_parts.ensures.tells
-    (c.give_back_parts.ensures.none_failed (of_rest g.F.Dir.files _ c.turns.invariant.run c.pop.new.self.items c.in-Some.sealed c.in-Some.ensures.items NoneFailed c.requires.none_failed))
+    (c.give_back_parts.ensures.none_failed (of_rest g.F.Dir.files _ c.turns.invariant.run c.pop.new.self.items c.in-Some.sealed c.in-Some.ensures.items NoneFailed c.requires.ready.none_failed))
 
 pub returns-in-Ok-Refused-clause-answers : goal.returns-in-Ok-Refused-clause-answers
 returns-in-Ok-Refused-clause-answers g c = λ kept schema text knows parts gives.
     let new = c.commit_block.new.engine in
     let here = c.turns.engine in
-    let back = c.give_back_parts.ensures.none_failed (of_rest g.F.Dir.files _ c.turns.invariant.run c.pop.new.self.items c.in-Some.sealed c.in-Some.ensures.items NoneFailed c.requires.none_failed) in
+    let back = c.give_back_parts.ensures.none_failed (of_rest g.F.Dir.files _ c.turns.invariant.run c.pop.new.self.items c.in-Some.sealed c.in-Some.ensures.items NoneFailed c.requires.ready.none_failed) in
     let arm = g.R.Arm.failed c.commit_block.new.arm in
     subst (λ (n : ℕ). Answered g.F.Dir.files kept (Ok (statement.Insert text)) (met c.args.engine.now new n) c.in-Ok-Refused.line) (sym back)
     (run_refused g.F.Dir.files _ c.turns.invariant.run c.pop.new.self.items c.in-Some.sealed c.in-Some.ensures.items new arm kept schema text parts knows gives c.in-Ok-Refused.line
@@ -65,7 +69,7 @@ pub returns-in-Ok-Refused-clause-accounts : goal.returns-in-Ok-Refused-clause-ac
 returns-in-Ok-Refused-clause-accounts g c =
     let new = c.commit_block.new.engine in
     let here = c.turns.engine in
-    let back = c.give_back_parts.ensures.none_failed (of_rest g.F.Dir.files _ c.turns.invariant.run c.pop.new.self.items c.in-Some.sealed c.in-Some.ensures.items NoneFailed c.requires.none_failed) in
+    let back = c.give_back_parts.ensures.none_failed (of_rest g.F.Dir.files _ c.turns.invariant.run c.pop.new.self.items c.in-Some.sealed c.in-Some.ensures.items NoneFailed c.requires.ready.none_failed) in
     accounts_next g.F.Dir.files _ c.turns.invariant.run c.pop.new.self.items c.in-Some.sealed c.in-Some.ensures.items new (g.R.Arm.failed c.args.arm.now) (g.R.Arm.failed c.turns.arm) (g.R.Arm.failed c.commit_block.new.arm)
     (g.R.Arm.failed c.give_back_parts.new.arm) (c.turns.invariant.arm.calm (λ no. no)) (sym back) (Ok c.in-Ok-Refused.line)
     (subst (λ (x : TurnReply). Accounts (counts (lapse here new (g.R.Arm.failed c.turns.arm) (g.R.Arm.failed c.commit_block.new.arm))) Never (Ok (reply_in x))) c.in-Ok-Refused.field-0-is c.in-Ok-Refused.ensures.accounts)
@@ -81,19 +85,19 @@ pub returns-in-Err-clause-arm : goal.returns-in-Err-clause-arm
 returns-in-Err-clause-arm g c =
     let on = arm_stays_on g.R.Arm c.args.arm.now c.turns.arm c.commit_block.new.arm c.turns.invariant.arm c.commit_block.ensures.arm.tells (c.commit_block.ensures.arm.calm (λ no. no)) in
     arm_stays_on g.R.Arm c.args.arm.now c.commit_block.new.arm c.give_back_parts-in-Err.new.arm on c.give_back_parts-in-Err.ensures.tells
-    (c.give_back_parts-in-Err.ensures.none_failed (of_rest g.F.Dir.files _ c.turns.invariant.run c.pop.new.self.items c.in-Some.sealed c.in-Some.ensures.items NoneFailed c.requires.none_failed))
+    (c.give_back_parts-in-Err.ensures.none_failed (of_rest g.F.Dir.files _ c.turns.invariant.run c.pop.new.self.items c.in-Some.sealed c.in-Some.ensures.items NoneFailed c.requires.ready.none_failed))
 
 pub returns-in-Err-clause-answers : goal.returns-in-Err-clause-answers
 returns-in-Err-clause-answers g c = λ kept schema text knows parts gives.
     let new = c.commit_block.new.engine in
-    let back = c.give_back_parts-in-Err.ensures.none_failed (of_rest g.F.Dir.files _ c.turns.invariant.run c.pop.new.self.items c.in-Some.sealed c.in-Some.ensures.items NoneFailed c.requires.none_failed) in
+    let back = c.give_back_parts-in-Err.ensures.none_failed (of_rest g.F.Dir.files _ c.turns.invariant.run c.pop.new.self.items c.in-Some.sealed c.in-Some.ensures.items NoneFailed c.requires.ready.none_failed) in
     let arm = g.R.Arm.failed c.commit_block.new.arm in
     subst (λ (n : ℕ). EndsUnanswered g.F.Dir.files kept (Ok (statement.Insert text)) (met c.args.engine.now new n)) (sym back)
     (run_ended g.F.Dir.files _ c.turns.invariant.run c.pop.new.self.items c.in-Some.sealed c.in-Some.ensures.items new arm kept schema text parts knows gives (λ now known at. c.in-Err.ensures.answers now schema known at))
 
 pub returns-in-Err-clause-accounts : goal.returns-in-Err-clause-accounts
 returns-in-Err-clause-accounts g c =
-    let back = c.give_back_parts-in-Err.ensures.none_failed (of_rest g.F.Dir.files _ c.turns.invariant.run c.pop.new.self.items c.in-Some.sealed c.in-Some.ensures.items NoneFailed c.requires.none_failed) in
+    let back = c.give_back_parts-in-Err.ensures.none_failed (of_rest g.F.Dir.files _ c.turns.invariant.run c.pop.new.self.items c.in-Some.sealed c.in-Some.ensures.items NoneFailed c.requires.ready.none_failed) in
     accounts_next g.F.Dir.files _ c.turns.invariant.run c.pop.new.self.items c.in-Some.sealed c.in-Some.ensures.items c.commit_block.new.engine (g.R.Arm.failed c.args.arm.now) (g.R.Arm.failed c.turns.arm) (g.R.Arm.failed c.commit_block.new.arm)
     (g.R.Arm.failed c.give_back_parts-in-Err.new.arm) (c.turns.invariant.arm.calm (λ no. no)) (sym back) (Err c.in-Err.field-0) c.in-Err.ensures.accounts
 
