@@ -39,6 +39,7 @@ module _ {F : Type 0} (store : CoreStore F) (opened : ℕ) where
   sound_reopened s = record {
     tables = λ table t at. let one = s.tables table t at in record { named = one.named; schema = one.schema; order = one.order; ends = one.ends; may = one.may };
     no_other = s.no_other;
+    mutations = s.mutations;
   }
 
   names_reopened : (told : Told) → NamesFit store told → NamesFit (reopened store opened) told

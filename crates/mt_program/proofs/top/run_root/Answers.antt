@@ -77,7 +77,7 @@ returns-clause-leaves g c = λ kept names script told is stands tells left.
     let low = c.requires.opened in
     let later = c.in-Ok.ensures.disk.later in
     let ready = open_root files root store here was.store was.storage
-    (ready_reopened c.in-Ok.store c.args.opened here.failed here.disk (λ names is. c.in-Ok.ensures.names names (sym c.in-Ok.ensures.disk.told ∙ is)) (λ names is. c.in-Ok.ensures.shown names (sym c.in-Ok.ensures.disk.told ∙ is)) c.in-Ok.ensures.sound (omega (arith, low, later)) c.requires.below) in
+    (ready_opened c.in-Ok.store c.args.opened files _ here.disk _ here.failed c.in-Ok.ensures.opens c.in-Ok.ensures.disk.told (omega (arith, low, later)) c.requires.below) in
     record {
       full = full;
       only = λ is names there. shows_full end.store end.storage.failed names end.storage.disk (c.run_script-end.ensures.keeps.ready ready) is (ap (λ (x : Storage). x.disk) c.into_outside-disk.ensures.storage ∙ there);
