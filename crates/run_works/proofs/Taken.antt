@@ -1,0 +1,46 @@
+-- Works that were taken up, and the schema of a table that is pinned.
+use Rattle.std.proofs.Common.{◌≡◌, Option, Some, None, Result, Ok, IfOk, IfSome, List, ℕ, sym, subst}
+use Rattle.std.specs.Option.{ok_or}
+use Rattle.mt_outside.specs.Files.{Files}
+use Rattle.session.proofs.MergeSteps.{work_schema}
+use Rattle.session.proofs.Putting.{some_of_work}
+use Rattle.session.proofs.Taking.{taken_pair}
+use Rattle.session.specs.mt_model.History.{IsTableSchema}
+use Rattle.shared_store.specs.Engines.{GoesOn, IsOpen, Opened, Snaps}
+use Rattle.shared_store.specs.Works.{TakesPair}
+use Rattle.shared_store.specs.declared.work.Work.{Work}
+use Rattle.shared_store.specs.merge_select.declared.scope.Scope.{Scope}
+use Rattle.shared_store.specs.part_reader.declared.reading.Part.{Part}
+use Rattle.shared_store.specs.part_set.declared.kept.Snap.{Snap}
+use Rattle.run_works.specs.Works.{MayBeMerged}
+
+-- what is there where an error else is answered
+pub ok_there : {T E : Type 0} (P : T → Type 0) (found : Option T) (why : E) (answer : Result T E)
+    → answer ≡ ok_or found why → IfSome found P → IfOk answer P
+ok_there P (Some x) why answer is held = subst (λ r. IfOk r P) (sym is) held
+ok_there P None why answer is held = subst (λ r. IfOk r P) (sym is) tt
+
+-- it is there where it is answered
+pub some_there : {T E : Type 0} (found : Option T) (why : E) (answer : Result T E) (x : T)
+    → answer ≡ ok_or found why → answer ≡ Ok x → found ≡ Some x
+some_there (Some y) why answer x is there = cc
+some_there None why answer x is there = cc
+
+-- of no folder the files are known
+no_files : {F : Type 0} → F → Option Files
+no_files dir = None
+
+-- a pair that is taken up may be merged
+pub may_be_merged : {F : Type 0} (scope : Scope) (was now : Opened F) (found : Option (Work F))
+    → GoesOn was now → TakesPair scope was now (Ok found) → IfSome found MayBeMerged
+may_be_merged scope was now None goes takes = tt
+may_be_merged scope was now (Some work) goes takes =
+    let taken = taken_pair no_files was now work goes scope takes in
+    record { some = some_of_work no_files was now work _ taken; schema = work_schema no_files was now work _ taken }
+
+-- the schema of a snapshot is that of a table
+pub snap_schema : {F : Type 0} (root : Opened F) (table : List ℕ) (found : Option (Snap (Part F))) (snap : Snap (Part F))
+    → IsOpen root → Snaps root.store table found → found ≡ Some snap → IsTableSchema snap.schema
+snap_schema root table found snap ready snaps is =
+    let pinned = subst (Snaps root.store table) is snaps in
+    subst IsTableSchema (sym pinned.schema) (ready.sound.tables table pinned.made pinned.there).schema

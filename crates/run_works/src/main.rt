@@ -1,0 +1,249 @@
+//! Cases of two works that are open at once, which no script makes: put and let go in each order, and put where a source is gone.
+//!
+//! Each begins with a new root over the disk in memory, in which a table has four parts of one row each. After each step the visible
+//! parts are printed in block order, with a `*` after each that bears a mark. Standard output is compared with what is wanted.
+#![tactic(auto)]
+
+ghost use Rattle.std.specs.Prelude.{IfOk};
+ghost use Rattle.run_works.specs.Works.{MayBeMerged};
+
+use disk_mem::{KeptAnnals, MemArm, MemDir, MemDisk};
+use mt_base::{Name, NoMemory, Partition, Policy, Seq, Twin};
+use mt_outside::{Disk, DiskError};
+use mt_values::Statement;
+use root_log::open;
+use root_log::sql_read::{Next, next_statement};
+use row_merge::merge_parts;
+use session::{create, give_back_part, insert};
+use shared_store::merge_select::Scope;
+use shared_store::part_name::text;
+use shared_store::part_reader::Part;
+use shared_store::part_set::Kept;
+use shared_store::root_commits::Returned;
+use shared_store::{Engine, Put, Work};
+use std::alloc::Global;
+use std::io;
+use thiserror::Error;
+
+/// What becomes of two works.
+#[derive(Clone, Copy)]
+enum Case {
+    InOrder,
+    OtherOrder,
+    FirstDropped,
+    SecondDropped,
+    /// Between them the merge of the two parts in the middle is put, which was not taken up.
+    SourceGone,
+}
+
+/// Why a case was not told to its end.
+#[derive(Clone, Copy, Debug, Error)]
+enum Fault {
+    #[error("{0}")]
+    Memory(#[from] NoMemory),
+    #[error("{0}")]
+    Disk(#[from] DiskError),
+    #[error("refused")]
+    Refused,
+}
+
+/// A part that is kept.
+type Shown = Kept<Part<MemDir>>;
+/// A work, or why there is none.
+type Taken = Result<Work<MemDir>, Fault>;
+
+/// A root that is open, an arm of its disk, and what was told of it.
+struct Root {
+    alloc: Global,
+    engine: Engine<MemDir, MemArm, MemDisk, KeptAnnals>,
+    arm: MemArm,
+    table: Name,
+    text: String,
+}
+
+/// Adds the names of parts, and a `*` after each that bears a mark.
+fn add_names(alloc: Global, line: &mut String, parts: &[Shown]) -> Result<(), NoMemory> {
+    for kept in parts {
+        let name = text(alloc, &kept.name)?;
+        let mark = if kept.busy { "*" } else { "" };
+        line.push_str(format!(in alloc; " {}{mark}", name.escape_ascii())?.as_str())?;
+    }
+    Ok(line.push_str("\n")?)
+}
+
+/// Copies of the second and the third of some parts.
+fn copies(alloc: Global, parts: &[Shown]) -> Result<Vec<Shown>, NoMemory> {
+    let mut copies = Vec::new(alloc);
+    for kept in parts.get(1..3).unwrap_or(&[]) {
+        copies.push(kept.twin(alloc)?)?;
+    }
+    Ok(copies)
+}
+
+impl Root {
+    /// Makes the table, takes up two works and tells what becomes of them, and then takes up and puts a third.
+    fn show(&mut self, case: Case) -> Result<(), Fault> {
+        self.run(b"CREATE TABLE t (a UInt8) ENGINE = MergeTree ORDER BY a;")?;
+        for _part in 0..4 {
+            self.run(b"INSERT INTO t;\n1\n\\.\n")?;
+        }
+        let first = self.take();
+        let second = self.take();
+        self.end(case, first, second)?;
+        let third = self.take();
+        self.put("third", third)
+    }
+
+    /// Runs a CREATE or an INSERT, which is accepted.
+    fn run(&mut self, text: &[u8]) -> Result<(), Fault> {
+        let (alloc, engine, arm) = (self.alloc, &mut self.engine, &mut self.arm);
+        let Next::Found(statement, _) = next_statement(alloc, text, true) else {
+            return Err(Fault::Refused);
+        };
+        let reply = match statement {
+            Statement::Create(text) => create(alloc, engine, arm, &text)?,
+            Statement::Insert(text) => insert(alloc, engine, arm, &text)?,
+            _ => return Err(Fault::Refused),
+        };
+        (reply.code() == 0).then_some(()).ok_or(Fault::Refused)
+    }
+
+    /// Tells what was done with a work, and the visible parts then.
+    fn tell(&mut self, name: &str, done: &str, source: &[u8]) -> Result<(), Fault> {
+        let found = self.engine.snapshot(self.alloc, &self.table)?;
+        let snap = found.ok_or(Fault::Refused)?;
+        let told = write!(self.text, "  {name} {done}{}:", source.escape_ascii());
+        let names = add_names(self.alloc, &mut self.text, snap.parts.as_slice());
+        self.engine.give_back(snap);
+        told.map_err(|_| NoMemory)?;
+        Ok(names?)
+    }
+
+    /// Takes up the merge of the pair at the head.
+    fn take(&mut self) -> Taken
+        ensures { IfOk result MayBeMerged }
+    {
+        let found = self.engine.take_merge(self.alloc, Scope::All)?;
+        found.ok_or(Fault::Refused)
+    }
+
+    /// The merge of the second and the third part, as a work that was not taken up.
+    fn middle(&mut self) -> Taken
+        ensures { IfOk result MayBeMerged }
+    {
+        let table = self.table.twin(self.alloc)?;
+        let found = self.engine.snapshot(self.alloc, &table)?;
+        let snap = found.ok_or(Fault::Refused)?;
+        let sources = copies(self.alloc, snap.parts.as_slice());
+        let schema = snap.schema.twin(self.alloc);
+        self.engine.give_back(snap);
+        let (sources, schema, partition) = (sources?, schema?, Partition::Whole);
+        if sources.is_empty() {
+            return Err(Fault::Refused);
+        }
+        Ok(Work {
+            table,
+            schema,
+            partition,
+            sources,
+        })
+    }
+
+    /// Merges the parts of a work, and puts what they became.
+    fn put(&mut self, name: &str, work: Taken) -> Result<(), Fault>
+        requires { IfOk work MayBeMerged }
+    {
+        let work = work?;
+        let (alloc, arm) = (self.alloc, &mut self.arm);
+        let Ok(part) = merge_parts(alloc, arm, &work.schema, work.sources.as_slice()) else {
+            self.engine.drop_work(work);
+            return Err(Fault::Refused);
+        };
+        match self.engine.put_work(alloc, work, part) {
+            Ok(Put::Done) => self.tell(name, "put", b""),
+            Ok(Put::Gone { part, back }) => {
+                give_back_part(&mut self.arm, Some(back));
+                let source = text(alloc, &part)?;
+                self.tell(name, "gone at ", &source)
+            }
+            Err(Returned { cause: _, back }) => {
+                give_back_part(&mut self.arm, back);
+                Err(Fault::Refused)
+            }
+        }
+    }
+
+    /// Lets a work go.
+    fn let_go(&mut self, name: &str, work: Taken) -> Result<(), Fault> {
+        self.engine.drop_work(work?);
+        self.tell(name, "dropped", b"")
+    }
+
+    /// Puts two works or lets them go.
+    fn end(&mut self, case: Case, first: Taken, second: Taken) -> Result<(), Fault>
+        requires first { IfOk first MayBeMerged }
+        requires second { IfOk second MayBeMerged }
+    {
+        let taken = self.tell("both", "taken", b"");
+        let (before, after) = match case {
+            Case::InOrder => (self.put("first", first), self.put("second", second)),
+            Case::OtherOrder => (self.put("second", second), self.put("first", first)),
+            Case::FirstDropped => (self.let_go("first", first), self.put("second", second)),
+            Case::SecondDropped => (self.let_go("second", second), self.put("first", first)),
+            Case::SourceGone => {
+                let middle = self.middle();
+                let before = self.put("first", first);
+                let between = self.put("middle", middle);
+                (before.and(between), self.put("second", second))
+            }
+        };
+        taken.and(before).and(after)
+    }
+}
+
+/// What a case comes to, over a new root.
+fn told(alloc: Global, case: Case) -> Result<String, Fault> {
+    let table = Seq::from_slice(alloc, b"t")?;
+    let mut disk = MemDisk::new(alloc)?;
+    let mut arm = disk.arm(alloc)?;
+    let Ok(store) = open(alloc, &mut disk, &mut arm) else {
+        disk.take_back(arm);
+        return Err(Fault::Refused);
+    };
+    let mut root = Root {
+        alloc,
+        engine: Engine::new(store, disk, KeptAnnals::new(alloc), Policy::Head),
+        arm,
+        table,
+        text: String::new(alloc),
+    };
+    let shown = root.show(case);
+    let Root {
+        alloc: _,
+        engine,
+        arm,
+        table: _,
+        text,
+    } = root;
+    let (mut disk, _) = engine.into_outside();
+    disk.take_back(arm);
+    shown?;
+    Ok(text)
+}
+
+fn main(rt: HostRuntime) -> io::Result<()> {
+    for (case, name) in [
+        (Case::InOrder, "put in the order taken"),
+        (Case::OtherOrder, "put in the other order"),
+        (Case::FirstDropped, "the first dropped, the second put"),
+        (Case::SecondDropped, "the second dropped, the first put"),
+        (Case::SourceGone, "put where a source is gone"),
+    ] {
+        println!(rt; "{name}")?;
+        match told(rt.alloc(), case) {
+            Ok(text) => rt.print(text.as_str())?,
+            Err(fault) => println!(rt; "  ? {fault}")?,
+        }
+    }
+    Ok(())
+}
