@@ -92,7 +92,7 @@ abbrev pub ExplainsRead : {F : Type 0} → (F → Option Files) → Bool → Lis
 ExplainsRead files_of true parts chosen w e = ExplainsFold files_of parts chosen w e
 ExplainsRead files_of false parts chosen w e = ExplainsMatches files_of parts chosen w e
 
--- the same of a pinned table's parts, of which the granules of a plan are read (docs/architecture.md, "The way of a SELECT")
+-- the same of a pinned table's parts, of which a plan chooses granules (docs/architecture.md, "The way of a SELECT")
 abbrev pub SaysRead : {F : Type 0} → (F → Option Files) → Snap (Part F) → Bool → Wanted → PartName × PartFault → Type 0
 SaysRead files_of snap is_final w e = ExplainsRead files_of is_final snap.parts.items (planned snap is_final w.condition.now) w e
 

@@ -75,7 +75,7 @@ abbrev pub AddsEach : {P : Type 0} → List (Kept P) → List (Kept P) → List 
 AddsEach [] before after = after ≡ before
 AddsEach {P} (k ∷ added) before after = (mid : List (Kept P)) × IsAdded before k mid × AddsEach added mid after
 
--- a part as a command makes it, under a number of its own; it bears no mark (docs/formats.md, "Names of parts")
+-- a part as a command makes it, of one number and of level 0; it bears no mark (docs/formats.md, "Names of parts")
 pub record IsFresh {P : Type 0} (k : Kept P) : Type 0 where
   pub number : ℕ
   pub name_is : k.name ≡ fresh_part k.name.partition number

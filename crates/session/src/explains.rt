@@ -1,4 +1,4 @@
-// Running an EXPLAIN: a table is pinned in one turn, and what a SELECT would read of its parts is counted outside of it. No file is read.
+// Running an EXPLAIN: a table is pinned in one turn, and what the plan of a SELECT chooses of its parts is counted outside of it. No file is read.
 ghost use Rattle.std.specs.Prelude.{◌≡◌, ◌⊎◌, ℕ, IfOk};
 ghost use Rattle.mt_values.specs.Annals.{Told};
 ghost use Rattle.replies.specs.mt_model.History.{IsTableSchema};

@@ -197,7 +197,7 @@ fn merge_as_asked<F: Dir, R: Arm<Dir = F>, D: Disk<Arm = R>, A: Annals>(
 }
 
 /// Merges parts of a table, unless the OPTIMIZE is refused: two neighbours that the policy takes, or with FINAL all parts of each
-/// partition into one. What was put before a merge that is refused stands, and none comes after it.
+/// partition into one. What was put before a merge that is refused stands.
 ///
 /// `NoMemory` where an allocation failed; what was put before stands, the annals are as they were, and no count of faults rose.
 pub fn optimize<F: Dir, R: Arm<Dir = F>, D: Disk<Arm = R>, A: Annals>(

@@ -1,7 +1,7 @@
 // The blocks of an INSERT sealed as parts, one for each partition of its rows, before the first of them has its turn.
 //
-// The turns come in the order of the partitions. A part can't be let go, so a list of them is taken from its end: the last part of a
-// list has the first turn, and the last block is sealed first.
+// The turns come in the order of the partitions. A part is moved on or taken apart, never dropped, so a list of them is taken from its
+// end: the last part of a list has the first turn, and the last block is sealed first.
 ghost use Rattle.std.specs.Prelude.{◌≡◌, ◌<◌, ◌≤◌, true, All, IfOk, IfSome, map};
 ghost use Rattle.mt_outside.specs.Causes.{Rose};
 ghost use Rattle.mt_outside.specs.DiskCauses.{HasDiskCause};
@@ -16,7 +16,7 @@ use mt_values::{Block, Schema};
 use shared_store::part_writer::{SealedPart, write_part};
 use std::alloc::Global;
 
-/// Rows of one partition, and the part that was sealed of them. It can't be let go, as its part can't.
+/// Rows of one partition, and the part that was sealed of them. It is never dropped, as its part is not.
 pub struct SealedBlock<S: Stage> {
     pub part: SealedPart<S>,
     pub block: Block,

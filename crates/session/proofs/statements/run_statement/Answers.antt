@@ -1,4 +1,3 @@
-use Rattle.std.proofs.lemmas.Result.{IfOk-weaker}
 use Rattle.std.proofs.Common.{◌≡◌, inl, IfOk, Err, Ok, true, refl, sym, ap, ◌∙◌, subst, arith}
 use Rattle.mt_values.specs.declared.statement.Cause.{Cause}
 use Rattle.mt_values.specs.declared.statement.Cause.TheVariants as cause
@@ -46,7 +45,7 @@ returns-in-Ok-Select-clause-answers g c = λ kept tells knows.
 pub returns-in-Ok-Select-clause-does : goal.returns-in-Ok-Select-clause-does
 returns-in-Ok-Select-clause-does g c =
     subst (λ (st : Item). DoesAsAsked g.row.R-Stage.Denot g.F.Dir.files (g.R.Arm.tells c.args.arm.now ≡ true) st (lapse c.args.engine.now c.select.new.engine (g.R.Arm.failed c.args.arm.now) (g.R.Arm.failed c.select.new.arm)) c.select.result)
-    (sym (c.in-Ok-Select.is ∙ ap Ok c.in-Ok-Select.field-0-is)) (c.select.ensures.stays, λ kept knows. IfOk-weaker c.select.result _ _ (λ reply from. from.plain) (c.select.ensures.answers kept knows))
+    (sym (c.in-Ok-Select.is ∙ ap Ok c.in-Ok-Select.field-0-is)) (c.select.ensures.stays, c.select.ensures.answers)
 
 pub returns-in-Ok-Select-clause-accounts : goal.returns-in-Ok-Select-clause-accounts
 returns-in-Ok-Select-clause-accounts g c =
