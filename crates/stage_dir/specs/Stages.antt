@@ -1,5 +1,5 @@
--- A stage whose files are each written once, and synced (docs/architecture.md, "Stages").
-use Rattle.std.specs.Prelude.{◌≡◌, ℕ, ◌≤◌, Bool, true, false, List, map, All, AllPairs, Option}
+-- A stage whose files grow, and are each synced once (docs/architecture.md, "Stages").
+use Rattle.std.specs.Prelude.{◌≡◌, ℕ, ◌≤◌, Bool, true, false, List, [], ◌∷◌, ◌++◌, map, All, AllPairs, Option, if◌then◌else◌}
 use Rattle.std.specs.List.{list_any}
 use Rattle.std.specs.Option.{ForSome}
 use Rattle.mt_base.specs.declared.name.FileId.{FileId}
@@ -10,7 +10,7 @@ use Rattle.mt_outside.specs.declared.disk.DiskError.TheVariants.{Fault, NoMemory
 use Rattle.mt_outside.specs.Causes.{Rose}
 use Rattle.mt_outside.specs.Files.{Files}
 
--- a stage that is being filled: the files written so far, in their order, what the stage tells, and its failed calls
+-- a stage that is being filled: the files that it has so far, in the order in which they were made, what the stage tells, and its failed calls
 pub record Filling : Type 0 where
   pub names : List FileId
   pub files : Option Files
@@ -29,11 +29,15 @@ has_file file names = list_any (λ name. same_file name file) names
 abbrev pub names_in : Files → List FileId
 names_in files = map (λ (w : Written). w.file) files
 
+-- the files with this one among them: where it is none of them it comes last
+abbrev pub with_file : FileId → List FileId → List FileId
+with_file file names = if has_file file names then names else names ++ file ∷ []
+
 -- no file stands in the list twice
 abbrev pub EachOnce : List FileId → Type 0
 EachOnce names = AllPairs (λ f g. same_file f g ≡ false) names
 
--- no write has failed: what the stage tells is the files that were written
+-- no write has failed: what the stage tells of are its files
 abbrev pub IsIntact : Filling → Type 0
 IsIntact filling = ForSome filling.files (λ files. names_in files ≡ filling.names)
 

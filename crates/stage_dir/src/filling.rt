@@ -2,14 +2,16 @@
 ghost use Rattle.std.specs.Prelude.{◌≡◌, ◌≤◌, ◌++◌, ◌∷◌, [], false, IfOk, IfErr, OnOk, OnErr};
 ghost use Rattle.std.specs.Option.{option_map, ForSome};
 ghost use Rattle.mt_outside.specs.DiskCauses.{HasDiskCause};
-ghost use Rattle.stage_dir.specs.Stages.{AreSealed, EachOnce, IsCauseOf, IsIntact, contents, has_file, names_in, settled, written};
+ghost use Rattle.mt_outside.specs.Files.{appended};
+ghost use Rattle.stage_dir.specs.Stages.{AreSealed, EachOnce, IsCauseOf, IsIntact, contents, has_file, names_in, settled, with_file, written};
 
-use mt_base::{FileId, Seq};
+use mt_base::{FileId, NoMemory, Seq};
 use mt_outside::{DiskError, Stage};
 use std::alloc::Global;
 use std::marker::Model;
 
-/// A stage that is being filled. It can't be let go, as its stage can't. Contracts see which files were written, what the stage tells of them, and how many of its calls have failed.
+/// A stage that is being filled. It can't be let go, as its stage can't. Contracts see which files it has, each once and in the order in which they
+/// were made, what the stage tells of them, and how many of its calls have failed.
 pub struct Open<S: Stage> {
     stage: S,
     names: Seq<FileId>,
@@ -103,6 +105,40 @@ fn is_among(names: &[FileId], file: FileId) -> bool
     false
 }
 
+// Adds the file to these, where it is none of them.
+//
+// `NoMemory` where an allocation failed; the files stay as they were.
+fn note_file(names: &mut Seq<FileId>, file: FileId) -> Result<(), NoMemory>
+    ensures ok { OnOk result (names.new ≡ with_file file names.old) }
+    ensures err { OnErr result (names.new ≡ names.old) }
+{
+    if is_among(names.as_slice(), file) {
+        return Ok(());
+    }
+    names.push(file)
+}
+
+/// Adds bytes at the end of a file, which is made where it is not there.
+///
+/// `Fault` only where the stage's count rose in this call, `NoMemory` where an allocation failed; without a fault the count stays.
+/// After an error the stage can only be given up.
+pub fn append_file<S: Stage>(
+    stage: &mut Open<S>,
+    file: FileId,
+    bytes: &[u8],
+) -> Result<(), DiskError>
+    requires { IsIntact stage.old }
+    ensures names { OnOk result (stage.new.names ≡ with_file file stage.old.names) }
+    ensures files { OnOk result
+        (stage.new.files ≡ option_map (appended file bytes.now) stage.old.files) }
+    ensures intact { OnOk result (IsIntact stage.new) }
+    ensures cause { HasDiskCause stage.old.failed stage.new.failed result }
+{
+    note_file(&mut stage.names, file)?;
+    stage.stage.append(file, bytes)?;
+    Ok(())
+}
+
 /// Writes a file that was not written yet, with these bytes. Where there are none it is an empty file.
 ///
 /// `Fault` only where the stage's count rose in this call, `NoMemory` where an allocation failed; without a fault the count stays.
@@ -120,9 +156,7 @@ pub fn write_file<S: Stage>(
     ensures intact { OnOk result (IsIntact stage.new) }
     ensures cause { HasDiskCause stage.old.failed stage.new.failed result }
 {
-    stage.names.push(file)?;
-    stage.stage.append(file, bytes)?;
-    Ok(())
+    append_file(stage, file, bytes)
 }
 
 // Syncs each of these files, which are those of the stage.
@@ -140,7 +174,7 @@ fn sync_files<S: Stage>(stage: &mut S, names: &[FileId]) -> Result<(), DiskError
     Ok(())
 }
 
-/// Syncs each file that was written, once.
+/// Syncs each file of the stage, once.
 ///
 /// Where it fails the stage is handed back with the same files, some of them synced: `Fault` only where its count rose in this call.
 pub fn seal<S: Stage>(stage: Open<S>) -> Result<Sealed<S>, Unsealed<S>>

@@ -2,18 +2,26 @@
 ghost use Rattle.std.specs.Prelude.{◌≡◌, ◌≢◌, ◌≤◌, ◌<◌, ◌+◌, ◌⊎◌, ◌++◌, ◌∷◌, [], ℕ, List, Some, None, true, false};
 ghost use Rattle.mt_base.specs.declared.name.FileId.{FileId};
 ghost use Rattle.mt_outside.specs.declared.disk.Change.{Change};
-ghost use Rattle.mt_outside.specs.Files.{Files, bytes_of, is_synced};
+ghost use Rattle.mt_outside.specs.Files.{Files, appended, bytes_of, is_synced};
 ghost use Rattle.mt_outside.specs.Disk.{AllBy, Image, Names, Since, Told, files_at, put, with_change};
 ghost use Rattle.stage_dir.specs.Stages.{AreSealed, has_file, names_in, settled, written};
 ghost use Rattle.stage_dir.specs.Crashes.{AreOfOthers, HoldsExactly, IsOfOther, WasPublished};
 
-/// A file that was written has its bytes and changes no other; a seal changes no bytes, and leaves each file synced.
+/// A file that was written has its bytes, one that has grown its bytes and then the new ones, and neither changes another; a seal changes no bytes, and
+/// leaves each file synced.
 pub fn written_files_keep_their_bytes()
+    // A file that is written or grows.
     ensures file { (files : Files) (file : FileId) (bytes : List ℕ)
         → has_file file (names_in files) ≡ false
         → bytes_of file (files ++ written file bytes ∷ []) ≡ bytes }
     ensures others { (files : Files) (file other : FileId) (bytes : List ℕ) → file ≢ other
         → bytes_of other (files ++ written file bytes ∷ []) ≡ bytes_of other files }
+    ensures grown { (files : Files) (file : FileId) (bytes : List ℕ)
+        → bytes_of file (appended file bytes files) ≡ bytes_of file files ++ bytes }
+    ensures grown_others { (files : Files) (file other : FileId) (bytes : List ℕ) → file ≢ other
+        → bytes_of other (appended file bytes files) ≡ bytes_of other files }
+
+    // A seal.
     ensures seal { (files : Files) (file : FileId)
         → bytes_of file (settled files) ≡ bytes_of file files }
     ensures synced { (files : Files) (file : FileId) → AreSealed files
