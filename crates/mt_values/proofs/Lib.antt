@@ -23,3 +23,4 @@ pub mod Texts
 pub mod TokenBounds
 pub mod Wheres
 pub mod WholeKeys
+pub mod Wrapping

@@ -1,5 +1,6 @@
 pub mod Annals
 pub mod Cells
+pub mod Changes
 pub mod ColumnBytes
 pub mod Columns
 pub mod Conditions
@@ -22,6 +23,7 @@ pub mod Schemas
 pub mod Script
 pub mod Sorting
 pub mod Strings
+pub mod Sums
 pub mod Tables
 pub mod Tests
 pub mod Tokens

@@ -1,5 +1,8 @@
 // Equal copies of what tables are made of.
-use crate::{Aggregate, ColType, Column, Engine, IndexKind, Schema, SkipIndex, Test, Value};
+use crate::{
+    Aggregate, Assigned, Assignment, Change, ColType, Column, Engine, IndexKind, Mutation, Schema,
+    SkipIndex, Test, Value,
+};
 use mt_base::{NoMemory, Twin};
 use std::alloc::Global;
 
@@ -89,6 +92,56 @@ impl Twin for Engine {
             }),
             Engine::Aggregating => Ok(Engine::Aggregating),
         }
+    }
+}
+
+impl Twin for Assigned {
+    fn twin(&self, alloc: Global) -> Result<Self, NoMemory> {
+        match self {
+            Assigned::Literal(value) => Ok(Assigned::Literal(value.twin(alloc)?)),
+            Assigned::Column(column) => Ok(Assigned::Column(*column)),
+            Assigned::Plus { column, number } => Ok(Assigned::Plus {
+                column: *column,
+                number: number.twin(alloc)?,
+            }),
+            Assigned::Minus { column, number } => Ok(Assigned::Minus {
+                column: *column,
+                number: number.twin(alloc)?,
+            }),
+        }
+    }
+}
+
+impl Twin for Assignment {
+    fn twin(&self, alloc: Global) -> Result<Self, NoMemory> {
+        Ok(Assignment {
+            column: self.column,
+            value: self.value.twin(alloc)?,
+        })
+    }
+}
+
+impl Twin for Change {
+    fn twin(&self, alloc: Global) -> Result<Self, NoMemory> {
+        match self {
+            Change::Delete(condition) => Ok(Change::Delete(condition.twin(alloc)?)),
+            Change::Update {
+                assignments,
+                condition,
+            } => Ok(Change::Update {
+                assignments: assignments.twin(alloc)?,
+                condition: condition.twin(alloc)?,
+            }),
+        }
+    }
+}
+
+impl Twin for Mutation {
+    fn twin(&self, alloc: Global) -> Result<Self, NoMemory> {
+        Ok(Mutation {
+            number: self.number,
+            change: self.change.twin(alloc)?,
+        })
     }
 }
 

@@ -49,7 +49,7 @@ pub struct TestText {
 }
 
 /// A comparison of the column at a place with literals of its type: it holds where it holds with one of them.
-#[derive(Drop)]
+#[derive(Drop, PartialEq, Eq)]
 pub struct Test {
     pub column: u32,
     pub comparison: Comparison,

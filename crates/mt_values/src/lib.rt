@@ -2,9 +2,11 @@
 //! their order, and the definitions of the grammar and of the bytes that every crate above cites.
 #![tactic(auto)]
 
+mod adding;
 mod annals;
 mod block;
 mod cell;
+mod change;
 mod column;
 mod command;
 mod conjuncts;
@@ -18,6 +20,7 @@ mod filtering;
 mod keyword;
 mod literal;
 mod manifest;
+mod mutation;
 mod order;
 mod partitions;
 mod row_fault;
@@ -31,9 +34,11 @@ mod testing;
 mod token;
 mod value;
 
+pub use adding::{add_number, subtract_number};
 pub use annals::{Annals, CountedAnnals, Noted};
 pub use block::Block;
 pub use cell::Cell;
+pub use change::{Assigned, Assignment, Change};
 pub use column::ColumnData;
 pub use command::{Command, Create, Entry, Insert};
 pub use conjuncts::conjuncts_are_the_condition;
@@ -46,6 +51,7 @@ pub use keyword::{is_keyword, is_reserved};
 pub use literal::literal_value;
 pub use manifest::{FileMark, Loaded, Manifest};
 pub use mt_base::{Bytes, FileId, Name, Partition, Rows, Twin};
+pub use mutation::Mutation;
 pub use order::{cmp_key, cmp_value, orders_are_exact, orders_are_total};
 pub use partitions::rows_have_partitions_of_their_table;
 pub use row_fault::{DataFault, FieldFault, RowFault};
