@@ -1,14 +1,13 @@
 -- What an EXPLAIN answers (docs/definitions-of-runs.md, "Explained reads"; ClickHouse, EXPLAIN: indexes).
-use Rattle.std.specs.Prelude.{◌≡◌, ◌≤◌, ◌&&◌, ◌++◌, ◌∷◌, [], ℕ, Bool, true, false, List, All, Ok, Some, codes, length}
+use Rattle.std.specs.Prelude.{◌≡◌, ◌&&◌, ◌++◌, ◌∷◌, [], ℕ, Bool, true, false, List, All, Ok, Some, codes, length}
 use Rattle.std.specs.Fmt.{decimal}
 use Rattle.std.specs.List.{count_by, list_any, sum_by}
-use Rattle.std.specs.List.Sorted.{IsSorted}
 use Rattle.mt_base.specs.declared.partition.Partition.{Partition}
 use Rattle.mt_values.specs.declared.expr.Test.{Test}
 use Rattle.mt_values.specs.declared.schema.Schema.{Schema}
 use Rattle.mt_values.specs.declared.statement.SelectText.{SelectText}
 use Rattle.mt_values.specs.Conditions.{Condition}
-use Rattle.mt_values.specs.Tables.{same_partition, sorting_cmp}
+use Rattle.mt_values.specs.Tables.{same_partition}
 use Rattle.mt_values.specs.Values.{Row}
 use Rattle.mt_values.specs.Granules.{mark_keys}
 use Rattle.predicate.specs.Granules.{chosen_in}
@@ -16,30 +15,32 @@ use Rattle.predicate.specs.Indexes.{chosen_of_rows}
 use Rattle.mt_model.specs.declared.counts.Counts.{Counts}
 use Rattle.mt_model.specs.declared.query.Query.{Query}
 use Rattle.mt_model.specs.History.{History, schema_of}
-use Rattle.mt_model.specs.Live.{live}
-use Rattle.mt_model.specs.Numbers.{IsNumberOfInsert, lies_within, within}
-use Rattle.mt_model.specs.Partial.{Partly}
+use Rattle.mt_model.specs.Numbers.{IsNumberOfInsert, Reach, lies_within}
 use Rattle.mt_model.specs.Queries.{query_of}
+use Rattle.mt_model.specs.Reaches.{ReachStands}
 
 -- Rows of a table that are kept together: those of the INSERTs into one partition whose numbers lie in a range, as merges may have
--- left them (ClickHouse, MergeTree: data storage; docs/definitions-of-runs.md, "Explained reads").
+-- left them. The version is the number up to which mutations were applied (ClickHouse, MergeTree: data storage;
+-- docs/definitions-of-runs.md, "Explained reads").
 pub record Portion : Type 0 where
   pub partition : Partition
   pub least : ℕ
   pub greatest : ℕ
+  pub version : ℕ
   pub rows : List Row
 
 -- whether a number of the partition lies in the portion's range (docs/definitions-of-runs.md, "Explained reads")
 abbrev pub has_number : Partition → ℕ → Portion → Bool
 has_number partition n p = same_partition p.partition partition && lies_within p.least p.greatest n
 
--- a portion stands for INSERTs into a table: both ends of its range are theirs, and its rows are sorted (docs/definitions-of-runs.md, "Explained reads")
-pub record PortionStands (h : History) (table : List ℕ) (schema : Schema) (p : Portion) : Type 0 where
-  pub order : p.least ≤ p.greatest
-  pub first : IsNumberOfInsert table p.partition p.least h
-  pub last : IsNumberOfInsert table p.partition p.greatest h
-  pub rising : IsSorted (sorting_cmp schema) p.rows
-  pub partly : Partly schema (live table schema (within table p.partition p.least p.greatest h)) p.rows
+-- what a portion of a table reaches (docs/definitions-of-runs.md, "Explained reads")
+abbrev pub reach_of_portion : List ℕ → Portion → Reach
+reach_of_portion table p =
+    record { table = table; partition = p.partition; least = p.least; greatest = p.greatest; version = p.version }
+
+-- a portion stands for INSERTs into a table: its rows stand for what it reaches (docs/definitions-of-runs.md, "Explained reads")
+abbrev pub PortionStands : History → List ℕ → Schema → Portion → Type 0
+PortionStands h table schema p = ReachStands h schema (reach_of_portion table p) p.rows
 
 -- portions stand for a table: each INSERT into it is in exactly one (docs/definitions-of-runs.md, "Explained reads")
 pub record PortionsStand (h : History) (table : List ℕ) (schema : Schema) (ps : List Portion) : Type 0 where

@@ -9,10 +9,12 @@ pub mod Final
 pub mod Folding
 pub mod History
 pub mod Live
+pub mod Mutations
 pub mod Numbers
 pub mod Outside
 pub mod Partial
 pub mod Queries
+pub mod Reaches
 pub mod Refusals
 pub mod Reply
 pub mod Rules

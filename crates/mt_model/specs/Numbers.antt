@@ -52,27 +52,36 @@ abbrev pub is_for : Partition → Option Partition → Bool
 is_for partition None = false
 is_for partition (Some p) = same_partition p partition
 
--- whether what drew a number did so for the partition, and the number lies within these (docs/definitions.md, "Numbers")
-abbrev pub draw_within : Partition → ℕ → ℕ → ℕ → Option Draw → Bool
-draw_within partition least greatest n None = false
-draw_within partition least greatest n (Some d) = is_for partition d.partition && lies_within least greatest n
+-- What the name of a part reaches: the INSERTs into the partition of the table whose numbers are from the least to the greatest. The
+-- version is the number up to which mutations were applied; no command is a mutation yet (docs/definitions.md, "Numbers").
+pub record Reach : Type 0 where
+  pub table : List ℕ
+  pub partition : Partition
+  pub least : ℕ
+  pub greatest : ℕ
+  pub version : ℕ
 
--- whether the command that drew a number did so for the partition, and the number lies within these (docs/definitions.md, "Numbers")
-abbrev pub is_within : Partition → ℕ → ℕ → ℕ → Command → Bool
-is_within partition least greatest n c = draw_within partition least greatest n (draw_of c)
+-- whether what drew this number is reached: it did so for the partition, and the number lies within these (docs/definitions.md, "Numbers")
+abbrev pub draw_reached : Reach → ℕ → Option Draw → Bool
+draw_reached r n None = false
+draw_reached r n (Some d) = is_for r.partition d.partition && lies_within r.least r.greatest n
+
+-- whether the command that drew this number is reached (docs/definitions.md, "Numbers")
+abbrev pub is_reached : Reach → ℕ → Command → Bool
+is_reached r n c = draw_reached r n (draw_of c)
 
 -- an entry before the others, where it stays (docs/definitions.md, "Numbers")
 abbrev pub entry_if : Bool → Entry → History → History
 entry_if stays e h = if stays then e ∷ h else h
 
--- what stays of entries whose first number is this one (docs/definitions.md, "Numbers")
-abbrev pub within_from : List ℕ → Partition → ℕ → ℕ → ℕ → History → History
-within_from table partition least greatest n [] = []
-within_from table partition least greatest n (e ∷ h) =
-    if draws table e.command
-    then entry_if (is_within partition least greatest n e.command) e (within_from table partition least greatest (n + 1) h)
-    else e ∷ within_from table partition least greatest n h
+-- what stays of entries of which the first that draws a number of the table draws this one (docs/definitions.md, "Numbers")
+abbrev pub reached_from : Reach → ℕ → History → History
+reached_from r n [] = []
+reached_from r n (e ∷ h) =
+    if draws r.table e.command
+    then entry_if (is_reached r n e.command) e (reached_from r (n + 1) h)
+    else e ∷ reached_from r n h
 
--- the history without the table's INSERTs that are of another partition, or whose number does not lie within these (docs/definitions.md, "Numbers")
-abbrev pub within : List ℕ → Partition → ℕ → ℕ → History → History
-within table partition least greatest h = within_from table partition least greatest 1 h
+-- the history without what drew a number of the table and is not reached: all else stays, other tables' commands too (docs/definitions.md, "Numbers")
+abbrev pub reached : Reach → History → History
+reached r h = reached_from r 1 h

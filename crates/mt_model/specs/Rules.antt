@@ -1,6 +1,5 @@
 -- What a merge may leave of a run of rows of one key, by each engine's rule (docs/engines.md; ClickHouse, MergeTree family).
-use Rattle.std.specs.Prelude.{◌≡◌, ◌⊎◌, ◌&&◌, ◌+◌, ◌^◌, ◌<◌, ◌≤◌, ℕ, ℤ, pos, negsuc, ◌+ℤ◌, unsigned_abs, Bool, true, false, if◌then◌else◌, nat_eq, nat_lt, List, [], ◌∷◌, ◌++◌, All, filter, length, take, slice_get, Option, Some, None, bit_and, bit_or, bit_xor}
-use Rattle.std.specs.Int.{int_rem_euclid, int_wrap, w8, w16, w32, w64}
+use Rattle.std.specs.Prelude.{◌≡◌, ◌⊎◌, ◌&&◌, ◌+◌, ◌<◌, ◌≤◌, ℕ, pos, negsuc, Bool, true, false, if◌then◌else◌, nat_eq, nat_lt, List, [], ◌∷◌, ◌++◌, All, filter, length, take, slice_get, Option, Some, None, bit_and, bit_or, bit_xor}
 use Rattle.std.specs.List.{list_all, list_any, reduce}
 use Rattle.std.specs.Ordering.{int_eq, is_lt}
 use Rattle.mt_values.specs.declared.engine.Aggregate.{Aggregate}
@@ -12,44 +11,10 @@ use Rattle.mt_values.specs.declared.value.Value.TheVariants as value
 pub use Rattle.mt_values.specs.Engines.{is_sign}
 use Rattle.mt_values.specs.Grid.{column_of}
 use Rattle.mt_values.specs.Order.{value_cmp}
+pub use Rattle.mt_values.specs.Sums.{integer_of, low_bits, total, wrapped_as}
 use Rattle.mt_values.specs.Tables.{number_at}
 use Rattle.mt_values.specs.Values.{Row}
 use Rattle.mt_model.specs.Folding.{LeavesLater}
-
--- ---- numbers in columns
-
--- the number that a value is; a text is none, and adds nothing (docs/engines.md, "Sums")
-abbrev pub integer_of : Value → ℤ
-integer_of (value.UInt8 n) = pos n
-integer_of (value.UInt16 n) = pos n
-integer_of (value.UInt32 n) = pos n
-integer_of (value.UInt64 n) = pos n
-integer_of (value.Int8 z) = z
-integer_of (value.Int16 z) = z
-integer_of (value.Int32 z) = z
-integer_of (value.Int64 z) = z
-integer_of (value.Text bytes) = pos 0
-
--- the sum of the numbers (docs/engines.md, "Sums")
-abbrev pub total : List Value → ℤ
-total [] = pos 0
-total (v ∷ vs) = integer_of v +ℤ total vs
-
--- the number from 0 that has the same lowest bits, this many (docs/engines.md, "Sums")
-abbrev pub low_bits : ℕ → ℤ → ℕ
-low_bits bits z = unsigned_abs (int_rem_euclid z (pos (2 ^ bits)))
-
--- a number as a value of the type of another value, wrapped at its width (docs/engines.md, "Sums"; ClickHouse, UInt8 to Int64: overflow)
-abbrev pub wrapped_as : Value → ℤ → Value
-wrapped_as (value.UInt8 n) z = value.UInt8 (low_bits 8 z)
-wrapped_as (value.UInt16 n) z = value.UInt16 (low_bits 16 z)
-wrapped_as (value.UInt32 n) z = value.UInt32 (low_bits 32 z)
-wrapped_as (value.UInt64 n) z = value.UInt64 (low_bits 64 z)
-wrapped_as (value.Int8 n) z = value.Int8 (int_wrap w8 z)
-wrapped_as (value.Int16 n) z = value.Int16 (int_wrap w16 z)
-wrapped_as (value.Int32 n) z = value.Int32 (int_wrap w32 z)
-wrapped_as (value.Int64 n) z = value.Int64 (int_wrap w64 z)
-wrapped_as (value.Text bytes) z = value.Text bytes
 
 -- ---- ReplacingMergeTree
 
