@@ -60,15 +60,16 @@ has_at w n a is from upto =
 -- a part that stands is of a partition that its table may have: that of the INSERT of its least block
 may_part : (h : History) (schema : Schema) (p : CorePart) → IsLegal h → schema_of p.table h ≡ Some schema → PartStands h p → MayHavePartition schema p.name.partition
 may_part h schema p legal there s =
-    let into = into_at schema (numbered p.table h) (p.name.min_block - 1) s.least.insert (all_into p.table h schema legal there) s.least.there in
-    subst (MayHavePartition schema) s.least.partition_is (own_partition schema s.least.insert (legal_schema p.table h schema legal there) into)
+    let least = s.stands.least in
+    let into = into_at schema (numbered p.table h) (p.name.min_block - 1) least.insert (all_into p.table h schema legal there) least.there in
+    subst (MayHavePartition schema) least.partition_is (own_partition schema least.insert (legal_schema p.table h schema legal there) into)
 
 -- the parts of a table end below its next number
 pub ends_below : (h : History) (table : List ℕ) (ps : List CorePart) → TableStands table ps h → All (λ (p : CorePart). p.name.max_block < next_number table h) ps
 ends_below h table ps s k d below =
     let p = get_or ps k d in
     let stands : PartStands h p = s.each k d below in
-    let drawn = subst (λ t. p.name.max_block ≤ length (numbered t h)) (s.own k d below) (number_drawn p.table p.name.partition p.name.max_block h stands.greatest) in
+    let drawn = subst (λ t. p.name.max_block ≤ length (numbered t h)) (s.own k d below) (number_drawn p.table p.name.partition p.name.max_block h stands.stands.greatest) in
     omega (arith, drawn)
 
 -- the parts of a table are of partitions that it may have
@@ -94,7 +95,7 @@ module _ (h : History) (table : List ℕ) (ps : List CorePart) (s : TableStands 
   -- the least number of a part
   least_at : (w : Partition) (i : ℕ) (a : CorePart) → slice_get ps i ≡ Some a → a.name.partition ≡ w → IsNumberOfInsert table w a.name.min_block h
   least_at w i a at is =
-      subst (λ (t : List ℕ). IsNumberOfInsert t w a.name.min_block h) (own_at i a at) (subst (λ (v : Partition). IsNumberOfInsert a.table v a.name.min_block h) is (stands_at i a at).least)
+      subst (λ (t : List ℕ). IsNumberOfInsert t w a.name.min_block h) (own_at i a at) (subst (λ (v : Partition). IsNumberOfInsert a.table v a.name.min_block h) is (stands_at i a at).stands.least)
 
   -- of two parts of one partition, one stands before the other
   pub stand_apart : (i j : ℕ) (a b : CorePart) → slice_get ps i ≡ Some a → slice_get ps j ≡ Some b → i ≢ j → a.name.partition ≡ b.name.partition → IsPartName a.name → IsPartName b.name → Before a.name b.name ⊎ Before b.name a.name

@@ -65,10 +65,10 @@ record Begins (table : List ℕ) (h : History) (w : Partition) (p : CorePart) : 
 
 begins : (table : List ℕ) (h : History) (w : Partition) (p : CorePart) → p.table ≡ table → PartStands h p → Begins table h w p
 begins table h w p own s = record {
-  low = s.least.from_one;
-  order = s.order;
+  low = s.stands.least.from_one;
+  order = s.stands.order;
   drawn = λ is. subst (λ (t : List ℕ). IsNumberOfInsert t w p.name.min_block h) own
-      (subst (λ (v : Partition). IsNumberOfInsert p.table v p.name.min_block h) (partition_is p.name.partition w is) s.least);
+      (subst (λ (v : Partition). IsNumberOfInsert p.table v p.name.min_block h) (partition_is p.name.partition w is) s.stands.least);
 }
 
 begin_all : (table : List ℕ) (h : History) (w : Partition) (ps : List CorePart) → AllByRecursion (λ (p : CorePart). p.table ≡ table) ps → AllByRecursion (PartStands h) ps → AllByRecursion (Begins table h w) ps

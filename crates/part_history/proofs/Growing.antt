@@ -16,8 +16,9 @@ use Rattle.mt_values.specs.Tables.{same_partition, sorting_cmp}
 use Rattle.mt_values.specs.Values.{Row}
 use Rattle.mt_model.specs.History.{History, schema_of}
 use Rattle.mt_model.specs.Live.{live, sorted}
-use Rattle.mt_model.specs.Numbers.{IsNumberOfInsert, draws, is_within, lies_within, numbered, within}
+use Rattle.mt_model.specs.Numbers.{IsNumberOfInsert, Reach, draws, lies_within, numbered, reached}
 use Rattle.mt_model.specs.Partial.{Partly}
+use Rattle.mt_model.specs.Reaches.{ReachStands}
 use Rattle.mt_model.proofs.Commands.{same_itself}
 use Rattle.mt_model.proofs.Determined.{sorting_total}
 use Rattle.mt_model.proofs.Histories.{numbered_more, schema_kept}
@@ -25,9 +26,9 @@ use Rattle.mt_model.proofs.Merged.{partly_itself}
 use Rattle.mt_model.proofs.Sorting.{sorted_rises}
 use Rattle.mt_model.proofs.Tables.{itself_same}
 use Rattle.part_history.specs.declared.part.CorePart.{CorePart}
-use Rattle.part_history.specs.Parts.{PartStands, TableStands, has_block}
+use Rattle.part_history.specs.Parts.{PartStands, TableStands, has_block, reach_of_part}
 use Rattle.part_history.specs.Entered.{part_of_insert}
-use Rattle.part_history.proofs.Numbered.{kept, kept_if, live_within, sorted_by}
+use Rattle.part_history.proofs.Numbered.{is_kept, kept, kept_if, kept_in, live_reached, sorted_by}
 use Rattle.part_history.proofs.Ranges.{and_false, if_front, kept_above, lies_above, lies_below, lies_inside, outside}
 
 -- ---- lists
@@ -76,35 +77,41 @@ kept_below p a b n (c ∷ cs) le = ap (λ s. kept_if s c (kept p a b (n + 1) cs)
 pub kept_more : (p : Partition) (a b n m : ℕ) (cs more : List Command) → m ≡ n + length cs → kept p a b n (cs ++ more) ≡ kept p a b n cs ++ kept p a b m more
 kept_more p a b n m [] more is = let same : n ≡ m = omega (arith, is) in ap (λ k. kept p a b k more) same
 kept_more p a b n m (c ∷ cs) more is =
-    ap (kept_if (is_within p a b n c) c) (kept_more p a b (n + 1) m cs more (omega (arith, is)))
-    ∙ if_front (is_within p a b n c) c (kept p a b (n + 1) cs) (kept p a b m more)
+    ap (kept_if (is_kept p a b n c) c) (kept_more p a b (n + 1) m cs more (omega (arith, is)))
+    ∙ if_front (is_kept p a b n c) c (kept p a b (n + 1) cs) (kept p a b m more)
 
 -- commands with greater numbers change nothing
-pub live_kept : (t : List ℕ) (schema : Schema) (p : Partition) (a b : ℕ) (h more : History) → b ≤ length (numbered t h) → live t schema (within t p a b (h ++ more)) ≡ live t schema (within t p a b h)
-live_kept t schema p a b h more upto =
-    let last = 1 + length (numbered t h) in
-    live_within t schema p a b (h ++ more)
+pub live_kept : (schema : Schema) (r : Reach) (h more : History) → r.greatest ≤ length (numbered r.table h) → live r.table schema (reached r (h ++ more)) ≡ live r.table schema (reached r h)
+live_kept schema r h more upto =
+    let cs = numbered r.table h in
+    let others = numbered r.table more in
+    let last = 1 + length cs in
+    live_reached schema r (h ++ more)
     ∙ (ap (flat_map (sorted_by schema))
-    (ap (kept p a b 1) (numbered_more t h more)
-    ∙ (kept_more p a b 1 last (numbered t h) (numbered t more) refl
-    ∙ (ap (λ (cs : List Command). kept p a b 1 (numbered t h) ++ cs) (kept_above p a b last (numbered t more) (omega (arith, upto))) ∙ append-nil (kept p a b 1 (numbered t h)))))
-    ∙ sym (live_within t schema p a b h))
+    (ap (kept_in r 1) (numbered_more r.table h more)
+    ∙ (kept_more r.partition r.least r.greatest 1 last cs others refl
+    ∙ (ap (λ (rest : List Command). kept_in r 1 cs ++ rest) (kept_above r.partition r.least r.greatest last others (omega (arith, upto))) ∙ append-nil (kept_in r 1 cs))))
+    ∙ sym (live_reached schema r h))
 
 -- ---- parts
 
+-- rows still stand for what is reached
+reach_kept : (h more : History) (schema : Schema) (r : Reach) (rows : List Row) → ReachStands h schema r rows → ReachStands (h ++ more) schema r rows
+reach_kept h more schema r rows s = record {
+  order = s.order;
+  least = insert_kept r.table r.partition r.least h more s.least;
+  greatest = insert_kept r.table r.partition r.greatest h more s.greatest;
+  rising = s.rising;
+  partly = subst (λ (was : List Row). Partly schema was rows) (sym (live_kept schema r h more (number_drawn r.table r.partition r.greatest h s.greatest))) s.partly;
+}
+
 -- a part still stands
 pub part_kept : (h more : History) (p : CorePart) → PartStands h p → PartStands (h ++ more) p
-part_kept h more p s =
-    let most = number_drawn p.table p.name.partition p.name.max_block h s.greatest in
-    record {
-      schema = s.schema;
-      there = schema_kept p.table h more s.schema s.there;
-      least = insert_kept p.table p.name.partition p.name.min_block h more s.least;
-      greatest = insert_kept p.table p.name.partition p.name.max_block h more s.greatest;
-      order = s.order;
-      rising = s.rising;
-      partly = subst (λ (rows : List Row). Partly s.schema rows p.rows) (sym (live_kept p.table s.schema p.name.partition p.name.min_block p.name.max_block h more most)) s.partly;
-    }
+part_kept h more p s = record {
+  schema = s.schema;
+  there = schema_kept p.table h more s.schema s.there;
+  stands = reach_kept h more s.schema (reach_of_part p) p.rows s.stands;
+}
 
 -- parts of a table for which nothing drew a number
 pub table_kept : (t : List ℕ) (ps : List CorePart) (h more : History) → numbered t more ≡ [] → TableStands t ps h → TableStands t ps (h ++ more)
@@ -123,7 +130,7 @@ EndsBy top p = p.name.max_block ≤ top
 ends_all : (t : List ℕ) (h : History) (ps : List CorePart) → AllByRecursion (λ (p : CorePart). p.table ≡ t) ps → AllByRecursion (PartStands h) ps → AllByRecursion (EndsBy (length (numbered t h))) ps
 ends_all t h [] own each = tt
 ends_all t h (p ∷ ps) own each = (
-  subst (λ u. p.name.max_block ≤ length (numbered u h)) own.0 (number_drawn p.table p.name.partition p.name.max_block h each.0.greatest),
+  subst (λ u. p.name.max_block ≤ length (numbered u h)) own.0 (number_drawn p.table p.name.partition p.name.max_block h each.0.stands.greatest),
   ends_all t h ps own.1 each.1,
 )
 
@@ -159,47 +166,50 @@ module _ (h : History) (e : Entry) (i : Insert) (schema : Schema) (is : e.comman
         partition_is = refl;
       }
 
-  own_rows : live i.table schema (within i.table i.partition (length (numbered i.table h) + 1) (length (numbered i.table h) + 1) (h ++ e ∷ [])) ≡ sorted (sorting_cmp schema) i.block.rows
+  -- its part
+  abbrev new_part : CorePart
+  new_part = part_of_insert schema (length (numbered i.table h) + 1) i
+
+  own_rows : live i.table schema (reached (reach_of_part new_part) (h ++ e ∷ [])) ≡ sorted (sorting_cmp schema) i.block.rows
   own_rows =
       let cs = numbered i.table h in
       let n = length cs + 1 in
-      let yes : is_within i.partition n n n (command.Insert i) ≡ true =
+      let yes : is_kept i.partition n n n (command.Insert i) ≡ true =
       ap₂ ◌&&◌ (same_itself i.partition) (lies_inside n n n (omega arith) (omega arith)) in
-      live_within i.table schema i.partition n n (h ++ e ∷ [])
+      live_reached schema (reach_of_part new_part) (h ++ e ∷ [])
       ∙ (ap (flat_map (sorted_by schema))
       (ap (kept i.partition n n 1) drawn_here
       ∙ (kept_more i.partition n n 1 n cs (command.Insert i ∷ []) (omega arith)
       ∙ ap₂ (λ (xs : List Command) (s : Bool). xs ++ kept_if s (command.Insert i) []) (kept_below i.partition n n 1 cs (omega arith)) yes))
       ∙ append-nil (sorted (sorting_cmp schema) i.block.rows))
 
-  part_new : PartStands (h ++ e ∷ []) (part_of_insert schema (length (numbered i.table h) + 1) i)
+  part_new : PartStands (h ++ e ∷ []) new_part
   part_new = record {
     schema = schema;
     there = schema_kept i.table h (e ∷ []) schema there;
-    least = own_number;
-    greatest = own_number;
-    order = omega arith;
-    rising = sorted_rises (sorting_cmp schema) (sorting_total schema) i.block.rows;
-    partly = subst (λ (rows : List Row). Partly schema rows (sorted (sorting_cmp schema) i.block.rows)) (sym own_rows) (partly_itself schema (sorted (sorting_cmp schema) i.block.rows));
+    stands = record {
+      order = omega arith;
+      least = own_number;
+      greatest = own_number;
+      rising = sorted_rises (sorting_cmp schema) (sorting_total schema) i.block.rows;
+      partly = subst (λ (rows : List Row). Partly schema rows new_part.rows) (sym own_rows) (partly_itself schema new_part.rows);
+    };
   }
 
   one_insert : (k : Insert) → Some (command.Insert k) ≡ Some (command.Insert i) → k ≡ i
   one_insert k same = cc
 
-  pub table_grown : (ps : List CorePart) → TableStands i.table ps h → TableStands i.table (ps ++ part_of_insert schema (length (numbered i.table h) + 1) i ∷ []) (h ++ e ∷ [])
+  pub table_grown : (ps : List CorePart) → TableStands i.table ps h → TableStands i.table (ps ++ new_part ∷ []) (h ++ e ∷ [])
   table_grown ps s = record {
-    own = All-push (λ (p : CorePart). p.table ≡ i.table) ps new s.own refl;
-    each = All-push (PartStands (h ++ e ∷ [])) ps new (All-weaker (PartStands h) (PartStands (h ++ e ∷ [])) (λ p one. part_kept h (e ∷ []) p one) ps s.each) part_new;
+    own = All-push (λ (p : CorePart). p.table ≡ i.table) ps new_part s.own refl;
+    each = All-push (PartStands (h ++ e ∷ [])) ps new_part (All-weaker (PartStands h) (PartStands (h ++ e ∷ [])) (λ p one. part_kept h (e ∷ []) p one) ps s.each) part_new;
     once = λ w n at. by w n at (cases_lt (length (numbered i.table h)) n);
   }
     where
-      new : CorePart
-      new = part_of_insert schema (length (numbered i.table h) + 1) i
-
       ends : AllByRecursion (EndsBy (length (numbered i.table h))) ps
       ends = ends_all i.table h ps (recursion_from_All (λ (p : CorePart). p.table ≡ i.table) ps s.own) (recursion_from_All (PartStands h) ps s.each)
 
-      by : (w : Partition) (n : ℕ) → IsNumberOfInsert i.table w n (h ++ e ∷ []) → (length (numbered i.table h) < n) ⊎ (n ≤ length (numbered i.table h)) → count_by (has_block w n) (ps ++ part_of_insert schema (length (numbered i.table h) + 1) i ∷ []) ≡ 1
+      by : (w : Partition) (n : ℕ) → IsNumberOfInsert i.table w n (h ++ e ∷ []) → (length (numbered i.table h) < n) ⊎ (n ≤ length (numbered i.table h)) → count_by (has_block w n) (ps ++ new_part ∷ []) ≡ 1
       by w n at (inr upto) =
           let count = length (numbered i.table h) in
           let p = part_of_insert schema (count + 1) i in

@@ -15,14 +15,14 @@ use Rattle.mt_values.specs.Values.{Row}
 use Rattle.mt_model.specs.Folding.{ComesFrom}
 use Rattle.mt_model.specs.History.{History, IsLegal, schema_of}
 use Rattle.mt_model.specs.Live.{live, of_key}
-use Rattle.mt_model.specs.Numbers.{IsNumberOfInsert, lies_within, numbered, within}
+use Rattle.mt_model.specs.Numbers.{IsNumberOfInsert, Reach, lies_within, numbered, reached}
 use Rattle.mt_model.specs.Partial.{Partly, TableRun}
 use Rattle.mt_model.proofs.Commands.{partition_is}
 use Rattle.mt_model.proofs.Merged.{comes_append, comes_itself, comes_none, of_key_append}
 use Rattle.mt_model.proofs.Sorting.{sorted_tail}
 use Rattle.part_history.specs.declared.part.CorePart.{CorePart}
-use Rattle.part_history.specs.Parts.{AreInBlockOrder, PartStands, TableStands, block_cmp, has_block, parts_in, rows_of_parts}
-use Rattle.part_history.proofs.Numbered.{all_into, kept, kept_all, kept_apart, live_numbered, live_within, sorted_by}
+use Rattle.part_history.specs.Parts.{AreInBlockOrder, PartStands, TableStands, block_cmp, has_block, parts_in, reach_of_part, rows_of_parts}
+use Rattle.part_history.proofs.Numbered.{all_into, kept, kept_all, kept_apart, kept_in, live_numbered, live_reached, sorted_by}
 use Rattle.part_history.proofs.Orders.{blocks_rise, order_filtered}
 use Rattle.part_history.proofs.Ranges.{Begins, Climbs, IsOf, Range, Stays, count_cons, holds, ranges_joined}
 use Rattle.part_history.proofs.Schemas.{same_schema}
@@ -76,23 +76,25 @@ module _ (h : History) (table : List ℕ) (schema : Schema) (legal : IsLegal h) 
     pub order : p.name.min_block ≤ p.name.max_block
     pub least : IsOf p.name.partition 1 cs p.name.min_block
     pub upto : p.name.max_block ≤ length cs
-    pub partly : Partly schema (flat_map (sorted_by schema) (kept p.name.partition p.name.min_block p.name.max_block 1 cs)) p.rows
+    pub partly : Partly schema (flat_map (sorted_by schema) (kept_in (reach_of_part p) 1 cs)) p.rows
 
   pub fits_here : (p : CorePart) → p.table ≡ table → PartStands h p → Fits p
   fits_here p own s =
-      let least : IsOf p.name.partition 1 (numbered p.table h) p.name.min_block = record { from = s.least.from_one; insert = s.least.insert; there = s.least.there; own = s.least.partition_is } in
-      let below : p.name.max_block - 1 < length (numbered p.table h) = slice_get_within (numbered p.table h) (p.name.max_block - 1) (command.Insert s.greatest.insert) s.greatest.there in
-      let most : p.name.max_block ≤ length (numbered p.table h) = omega (arith, below, s.greatest.from_one) in
+      let r : Reach = reach_of_part p in
+      let first = s.stands.least in
+      let last = s.stands.greatest in
+      let least : IsOf p.name.partition 1 (numbered p.table h) p.name.min_block = record { from = first.from_one; insert = first.insert; there = first.there; own = first.partition_is } in
+      let below : p.name.max_block - 1 < length (numbered p.table h) = slice_get_within (numbered p.table h) (p.name.max_block - 1) (command.Insert last.insert) last.there in
+      let most : p.name.max_block ≤ length (numbered p.table h) = omega (arith, below, last.from_one) in
       let same : s.schema ≡ schema = same_schema s.schema schema (sym s.there ∙ (ap (λ t. schema_of t h) own ∙ there)) in
-      let rows : live p.table s.schema (within p.table p.name.partition p.name.min_block p.name.max_block h) ≡ flat_map (sorted_by schema) (kept p.name.partition p.name.min_block p.name.max_block 1 (numbered table h)) =
-      live_within p.table s.schema p.name.partition p.name.min_block p.name.max_block h
-      ∙ ap₂ (λ (x : Schema) (t : List ℕ). flat_map (sorted_by x) (kept p.name.partition p.name.min_block p.name.max_block 1 (numbered t h))) same own in
+      let rows : live p.table s.schema (reached r h) ≡ flat_map (sorted_by schema) (kept_in r 1 (numbered table h)) =
+      live_reached s.schema r h ∙ ap₂ (λ (x : Schema) (t : List ℕ). flat_map (sorted_by x) (kept_in r 1 (numbered t h))) same own in
       record {
-        order = s.order;
+        order = s.stands.order;
         least = subst (λ t. IsOf p.name.partition 1 (numbered t h) p.name.min_block) own least;
         upto = subst (λ t. p.name.max_block ≤ length (numbered t h)) own most;
-        partly = subst (λ (x : Schema). Partly x (flat_map (sorted_by schema) (kept p.name.partition p.name.min_block p.name.max_block 1 (numbered table h))) p.rows) same
-            (subst (λ (rs : List Row). Partly s.schema rs p.rows) rows s.partly);
+        partly = subst (λ (x : Schema). Partly x (flat_map (sorted_by schema) (kept_in r 1 (numbered table h))) p.rows) same
+            (subst (λ (rs : List Row). Partly s.schema rs p.rows) rows s.stands.partly);
       }
 
   pub fits_all : (ps : List CorePart) → AllByRecursion (λ (p : CorePart). p.table ≡ table) ps → AllByRecursion (PartStands h) ps → AllByRecursion Fits ps

@@ -1,5 +1,5 @@
 -- A run of neighbours of one partition, and the part that a merge makes of them.
-use Rattle.std.proofs.Common.{◌≡◌, ℕ, ◌+◌, ◌<◌, ◌≤◌, Bool, true, false, cond, ◌&&◌, List, [], ◌∷◌, ◌++◌, Some, None, length, map, All, refl, sym, ap, ap₂, ◌∙◌, subst, arith, zero, suc, inl, inr, ◌⊎◌}
+use Rattle.std.proofs.Common.{◌≡◌, ℕ, ◌+◌, ◌<◌, ◌≤◌, Bool, true, false, cond, ◌&&◌, List, [], ◌∷◌, ◌++◌, Some, None, map, refl, sym, ap, ap₂, ◌∙◌, subst, arith, suc, inl, inr, ◌⊎◌}
 use Rattle.std.specs.List.{flat_map, count_by, AllByRecursion, AllZip}
 use Rattle.std.specs.Ordering.{is_lt, nat_cmp, ordering_then}
 use Rattle.std.proofs.lemmas.Bool.{cases_lt}
@@ -14,19 +14,19 @@ use Rattle.mt_values.specs.Tables.{same_partition}
 use Rattle.mt_values.specs.Values.{Row}
 use Rattle.mt_model.specs.History.{History, IsLegal, schema_of}
 use Rattle.mt_model.specs.Live.{live}
-use Rattle.mt_model.specs.Numbers.{IsNumberOfInsert, lies_within, numbered, within}
+use Rattle.mt_model.specs.Numbers.{IsNumberOfInsert, Reach, lies_within, numbered, reached}
 use Rattle.mt_model.specs.Partial.{Partly}
 use Rattle.mt_model.proofs.Commands.{partition_is, same_itself}
 use Rattle.mt_model.proofs.Merged.{partly_append, partly_folded, partly_itself, partly_on}
 use Rattle.mt_model.proofs.Sorting.{sorted_tail}
 use Rattle.part_name.specs.declared.part.PartName.{PartName}
-use Rattle.part_name.specs.Merged.{RiseFrom, last_name, merged_name, merged_of}
+use Rattle.part_name.specs.Merged.{RiseFrom, last_name, merged_name}
 use Rattle.part_name.proofs.Merging.{merged_greatest, merged_least}
 use Rattle.part_history.specs.declared.part.CorePart.{CorePart}
 use Rattle.part_history.specs.Merges.{IsMergedPart, names_of, with_rows}
-use Rattle.part_history.specs.Parts.{AreInBlockOrder, PartStands, TableStands, block_cmp, has_block, partition_cmp, parts_in}
+use Rattle.part_history.specs.Parts.{AreInBlockOrder, PartStands, TableStands, block_cmp, has_block, partition_cmp, parts_in, reach_of_part}
 use Rattle.part_history.proofs.Joined.{OfPartition, all_of, begin_all, climbs_all, count_ranges, fits_all, fits_here, flat_maps, range_of, ranges_in}
-use Rattle.part_history.proofs.Numbered.{kept, live_within, sorted_by}
+use Rattle.part_history.proofs.Numbered.{kept, kept_in, live_reached, sorted_by}
 use Rattle.part_history.proofs.Ordered.{one_sorted, order_between, sorted_next}
 use Rattle.part_history.proofs.Orders.{block_weak, order_filtered}
 use Rattle.part_history.proofs.Ranges.{Apart, Begins, Climbs, IsOf, Range, Stays, count_cons, count_no, holds, lies_above, lies_below, lies_inside, none_low, ranges_apart, ranges_joined}
@@ -321,25 +321,30 @@ module _ (h : History) (schema : Schema) (part : CorePart) (legal : IsLegal h) (
       subst (λ (v : Partition). Partly schema (flat_map (sorted_by schema) (kept v p.name.min_block p.name.max_block 1 drawn)) rows) mine.0 fits.partly in
       partly_append schema (added (range_of p)) (flat_map added (map range_of ps)) rows (flat_map (λ (rows : List Row). rows) inputs) here (rows_joined ps inputs mine.1 named.1 stand.1)
 
-  partly : Partly schema (live table schema (within table w low high h)) part.rows
+  -- what it reaches
+  abbrev reach : Reach
+  reach = reach_of_part part
+
+  partly : Partly schema (live table schema (reached reach h)) part.rows
   partly =
       let inputs = flat_map (λ (rows : List Row). rows) m.leaves.inputs in
-      let joined : flat_map (λ (r : Range). flat_map (sorted_by schema) (kept w r.0 r.1 1 drawn)) (map range_of sources) ≡ live table schema (within table w low high h) =
+      let run = run_joined w drawn (ranges_in w front) (range_of first) (map range_of rest) (ranges_in w back) begin_here climbs_here apart once in
+      let blocks : kept w low last.1 1 drawn ≡ kept_in reach 1 drawn = ap₂ (λ (a b : ℕ). kept w a b 1 drawn) (sym low_is) (last_is ∙ sym high_is) in
+      let joined : flat_map (λ (r : Range). flat_map (sorted_by schema) (kept w r.0 r.1 1 drawn)) (map range_of sources) ≡ live table schema (reached reach h) =
       flat_maps (sorted_by schema) (λ (r : Range). kept w r.0 r.1 1 drawn) (map range_of sources)
-      ∙ (ap (flat_map (sorted_by schema)) (run_joined w drawn (ranges_in w front) (range_of first) (map range_of rest) (ranges_in w back) begin_here climbs_here apart once ∙ ap (λ n. kept w low n 1 drawn) last_is)
-      ∙ sym (live_within table schema w low high h)) in
-      partly_on schema (live table schema (within table w low high h)) inputs part.rows
+      ∙ (ap (flat_map (sorted_by schema)) (run ∙ blocks) ∙ sym (live_reached schema reach h)) in
+      partly_on schema (live table schema (reached reach h)) inputs part.rows
       (subst (λ (rows : List Row). Partly schema rows inputs) joined (rows_joined sources m.leaves.inputs own tables_here m.leaves.stand))
       (partly_folded schema inputs part.rows m.leaves.merges)
 
   least : IsNumberOfInsert table w low h
-  least = subst (λ (v : Partition). IsNumberOfInsert table v low h) own.0 (subst (λ (t : List ℕ). IsNumberOfInsert t first.name.partition low h) tables_here.0 each_here.0.least)
+  least = subst (λ (v : Partition). IsNumberOfInsert table v low h) own.0 (subst (λ (t : List ℕ). IsNumberOfInsert t first.name.partition low h) tables_here.0 each_here.0.stands.least)
 
   greatests : (ps : List CorePart) → AllByRecursion (OfPartition w) ps → AllByRecursion (λ (p : CorePart). p.table ≡ table) ps → AllByRecursion (PartStands h) ps
       → AllByRecursion (λ (p : CorePart). IsNumberOfInsert table w p.name.max_block h) ps
   greatests [] mine named stand = tt
   greatests (p ∷ ps) mine named stand = (
-    subst (λ (v : Partition). IsNumberOfInsert table v p.name.max_block h) mine.0 (subst (λ (t : List ℕ). IsNumberOfInsert t p.name.partition p.name.max_block h) named.0 stand.0.greatest),
+    subst (λ (v : Partition). IsNumberOfInsert table v p.name.max_block h) mine.0 (subst (λ (t : List ℕ). IsNumberOfInsert t p.name.partition p.name.max_block h) named.0 stand.0.stands.greatest),
     greatests ps mine.1 named.1 stand.1,
   )
 
@@ -353,12 +358,13 @@ module _ (h : History) (schema : Schema) (part : CorePart) (legal : IsLegal h) (
       record {
         schema = schema;
         there = there;
-        order = omega (arith, order, low_is, high_is, last_is);
-        least = subst (λ n. IsNumberOfInsert table w n h) (sym low_is) least;
-        greatest = subst (λ n. IsNumberOfInsert table w n h) (sym high_is) greatest;
-        rising = m.leaves.rising;
-        partly = subst (λ n. Partly schema (live table schema (within table w n part.name.max_block h)) part.rows) (sym low_is)
-            (subst (λ n. Partly schema (live table schema (within table w low n h)) part.rows) (sym high_is) partly);
+        stands = record {
+          order = omega (arith, order, low_is, high_is, last_is);
+          least = subst (λ n. IsNumberOfInsert table w n h) (sym low_is) least;
+          greatest = subst (λ n. IsNumberOfInsert table w n h) (sym high_is) greatest;
+          rising = m.leaves.rising;
+          partly = partly;
+        };
       }
 
   -- each number is in the blocks of one part

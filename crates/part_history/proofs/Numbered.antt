@@ -1,4 +1,4 @@
--- Live rows, and those within some numbers, by the commands that drew numbers.
+-- Live rows, and those of what is reached, by the commands that drew numbers.
 use Rattle.std.proofs.Common.{◌≡◌, ℕ, ◌+◌, ◌-◌, ◌<◌, ◌≤◌, Bool, true, false, cond, ◌&&◌, List, [], ◌∷◌, ◌++◌, Some, None, length, slice_get, refl, sym, ap, ap₂, ◌∙◌, subst, append_assoc, append-nil, arith, zero, suc}
 use Rattle.std.specs.List.{flat_map, AllByRecursion}
 use Rattle.std.specs.Ordering.{is_eq}
@@ -15,7 +15,7 @@ use Rattle.mt_values.specs.Tables.{partition_of, same_partition, sorting_cmp}
 use Rattle.mt_values.specs.Values.{Row}
 use Rattle.mt_model.specs.History.{History, IsAllowed, IsInsertInto, IsLegal, IsLegalAfter, IsTableSchema, first_of, schema_by, schema_of}
 use Rattle.mt_model.specs.Live.{live, live_from, of_key, rows_after, sorted}
-use Rattle.mt_model.specs.Numbers.{IsNumberOfInsert, draws, entry_if, is_within, lies_within, numbered, within, within_from}
+use Rattle.mt_model.specs.Numbers.{IsNumberOfInsert, Reach, draws, entry_if, is_reached, lies_within, numbered, reached, reached_from}
 use Rattle.mt_model.proofs.Commands.{IsInsert, partition_is}
 use Rattle.mt_model.proofs.Determined.{sorting_total}
 use Rattle.mt_model.proofs.Histories.{schema_kept}
@@ -48,28 +48,46 @@ live_numbered t schema h = live_from_numbered t schema [] h
 abbrev pub kept_if : Bool → Command → List Command → List Command
 kept_if stays c cs = cond stays (c ∷ cs) cs
 
+-- whether the command that drew this number is an INSERT of the partition, and the number lies within these
+abbrev pub is_kept : Partition → ℕ → ℕ → ℕ → Command → Bool
+is_kept p a b n (command.Create c) = false
+is_kept p a b n (command.Insert i) = same_partition i.partition p && lies_within a b n
+
 -- the commands, the first of which drew this number, that are INSERTs of the partition with their numbers within these
 abbrev pub kept : Partition → ℕ → ℕ → ℕ → List Command → List Command
 kept p a b n [] = []
-kept p a b n (c ∷ cs) = kept_if (is_within p a b n c) c (kept p a b (n + 1) cs)
+kept p a b n (c ∷ cs) = kept_if (is_kept p a b n c) c (kept p a b (n + 1) cs)
+
+-- the commands that are reached, of which the first drew this number
+abbrev pub kept_in : Reach → ℕ → List Command → List Command
+kept_in r n cs = kept r.partition r.least r.greatest n cs
+
+reached_is : (r : Reach) (n : ℕ) (c : Command) → is_reached r n c ≡ is_kept r.partition r.least r.greatest n c
+reached_is r n (command.Create c) = refl
+reached_is r n (command.Insert i) = refl
 
 front_numbered : (t : List ℕ) (stays : Bool) (e : Entry) (h : History) (cs : List Command) → draws t e.command ≡ true → numbered t h ≡ cs → numbered t (entry_if stays e h) ≡ kept_if stays e.command cs
 front_numbered t true e h cs drew same = ap (λ d. cond d (e.command ∷ numbered t h) (numbered t h)) drew ∙ ap (λ (xs : List Command). e.command ∷ xs) same
 front_numbered t false e h cs drew same = same
 
--- what stays within some numbers
-pub numbered_within : (t : List ℕ) (p : Partition) (a b n : ℕ) (h : History) → numbered t (within_from t p a b n h) ≡ kept p a b n (numbered t h)
-numbered_within t p a b n [] = refl
-numbered_within t p a b n (e ∷ h) = by (draws t e.command) refl (numbered_within t p a b (n + 1) h) (numbered_within t p a b n h)
+-- what is reached of the table's commands
+pub numbered_reached : (r : Reach) (n : ℕ) (h : History) → numbered r.table (reached_from r n h) ≡ kept_in r n (numbered r.table h)
+numbered_reached r n [] = refl
+numbered_reached r n (e ∷ h) = by (draws r.table e.command) refl (numbered_reached r (n + 1) h) (numbered_reached r n h)
   where
-    by : (d : Bool) → draws t e.command ≡ d → numbered t (within_from t p a b (n + 1) h) ≡ kept p a b (n + 1) (numbered t h) → numbered t (within_from t p a b n h) ≡ kept p a b n (numbered t h)
-        → numbered t (cond d (entry_if (is_within p a b n e.command) e (within_from t p a b (n + 1) h)) (e ∷ within_from t p a b n h)) ≡ kept p a b n (cond d (e.command ∷ numbered t h) (numbered t h))
-    by true drew next here = front_numbered t (is_within p a b n e.command) e (within_from t p a b (n + 1) h) (kept p a b (n + 1) (numbered t h)) drew next
-    by false drew next here = ap (λ d. cond d (e.command ∷ numbered t (within_from t p a b n h)) (numbered t (within_from t p a b n h))) drew ∙ here
+    t : List ℕ
+    t = r.table
 
--- the live rows within some numbers
-pub live_within : (t : List ℕ) (schema : Schema) (p : Partition) (a b : ℕ) (h : History) → live t schema (within t p a b h) ≡ flat_map (sorted_by schema) (kept p a b 1 (numbered t h))
-live_within t schema p a b h = live_numbered t schema (within t p a b h) ∙ ap (flat_map (sorted_by schema)) (numbered_within t p a b 1 h)
+    by : (d : Bool) → draws t e.command ≡ d → numbered t (reached_from r (n + 1) h) ≡ kept_in r (n + 1) (numbered t h) → numbered t (reached_from r n h) ≡ kept_in r n (numbered t h)
+        → numbered t (cond d (entry_if (is_reached r n e.command) e (reached_from r (n + 1) h)) (e ∷ reached_from r n h)) ≡ kept_in r n (cond d (e.command ∷ numbered t h) (numbered t h))
+    by true drew next here =
+        front_numbered t (is_reached r n e.command) e (reached_from r (n + 1) h) (kept_in r (n + 1) (numbered t h)) drew next
+        ∙ ap (λ s. kept_if s e.command (kept_in r (n + 1) (numbered t h))) (reached_is r n e.command)
+    by false drew next here = ap (λ d. cond d (e.command ∷ numbered t (reached_from r n h)) (numbered t (reached_from r n h))) drew ∙ here
+
+-- the live rows of what is reached
+pub live_reached : (schema : Schema) (r : Reach) (h : History) → live r.table schema (reached r h) ≡ flat_map (sorted_by schema) (kept_in r 1 (numbered r.table h))
+live_reached schema r h = live_numbered r.table schema (reached r h) ∙ ap (flat_map (sorted_by schema)) (numbered_reached r 1 h)
 
 -- ---- the INSERTs of a table
 

@@ -111,7 +111,7 @@ order_between (p ∷ r ∷ ps) qs part low high one two =
 begin_below : (h : History) (table : List ℕ) (ps : List CorePart) → TableStands table ps h → All (λ (p : CorePart). p.name.min_block ≤ length (numbered table h)) ps
 begin_below h table ps s k d below =
     let p = get_or ps k d in
-    subst (λ t. p.name.min_block ≤ length (numbered t h)) (s.own k d below) (number_drawn p.table p.name.partition p.name.min_block h (s.each k d below).least)
+    subst (λ t. p.name.min_block ≤ length (numbered t h)) (s.own k d below) (number_drawn p.table p.name.partition p.name.min_block h (s.each k d below).stands.least)
 
 -- with an INSERT's part, the last of its partition, the parts of a table are in block order
 pub order_grown : (h : History) (i : Insert) (schema : Schema) (ps : List CorePart) → TableStands i.table ps h → AreInBlockOrder ps → AreInBlockOrder (with_part (part_of_insert schema (next_number i.table h) i) ps)

@@ -11,14 +11,14 @@ use Rattle.mt_values.specs.Values.{Row}
 use Rattle.mt_model.specs.Folding.{ComesFrom}
 use Rattle.mt_model.specs.History.{History, IsLegal, schema_of}
 use Rattle.mt_model.specs.Live.{live, of_key}
-use Rattle.mt_model.specs.Numbers.{within}
+use Rattle.mt_model.specs.Numbers.{Reach, reached}
 use Rattle.mt_model.specs.Partial.{TableRun}
 use Rattle.mt_model.proofs.Commands.{partition_is, same_itself}
 use Rattle.mt_model.proofs.Determined.{sorting_total}
 use Rattle.mt_model.proofs.Merged.{comes_none}
 use Rattle.part_history.specs.declared.part.CorePart.{CorePart}
-use Rattle.part_history.specs.Parts.{PartStands, TableStands}
-use Rattle.part_history.proofs.Numbered.{all_into, kept_apart, live_within}
+use Rattle.part_history.specs.Parts.{PartStands, TableStands, reach_of_part}
+use Rattle.part_history.proofs.Numbered.{all_into, kept_apart, live_reached}
 use Rattle.part_history.proofs.Schemas.{same_schema}
 
 -- rows of which none has a key of another partition are of this one
@@ -55,13 +55,11 @@ module _ (h : History) (legal : IsLegal h) where
   -- a part has no row of another partition
   none_apart : (part : CorePart) (s : PartStands h part) (w : Partition) (row : Row) → same_partition part.name.partition w ≡ false → of_key s.schema w row part.rows ≡ []
   none_apart part s w row apart =
-      let p = part.name.partition in
-      let a = part.name.min_block in
-      let b = part.name.max_block in
-      let none : of_key s.schema w row (live part.table s.schema (within part.table p a b h)) ≡ [] =
-      ap (of_key s.schema w row) (live_within part.table s.schema p a b h) ∙ kept_apart s.schema w row p a b 1 _ (all_into part.table h s.schema legal s.there) apart in
+      let r : Reach = reach_of_part part in
+      let none : of_key s.schema w row (live part.table s.schema (reached r h)) ≡ [] =
+      ap (of_key s.schema w row) (live_reached s.schema r h) ∙ kept_apart s.schema w row r.partition r.least r.greatest 1 _ (all_into part.table h s.schema legal s.there) apart in
       comes_none (TableRun s.schema) (of_key s.schema w row part.rows)
-      (subst (λ (rows : List Row). ComesFrom (TableRun s.schema) rows (of_key s.schema w row part.rows)) none (s.partly w row))
+      (subst (λ (rows : List Row). ComesFrom (TableRun s.schema) rows (of_key s.schema w row part.rows)) none (s.stands.partly w row))
 
   pub own_rows : (table : List ℕ) (schema : Schema) (parts : List CorePart) → schema_of table h ≡ Some schema → TableStands table parts h
       → All (λ (p : CorePart). All (λ (r : Row). partition_of schema r ≡ p.name.partition) p.rows) parts

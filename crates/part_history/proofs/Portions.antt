@@ -7,8 +7,9 @@ use Rattle.mt_base.specs.declared.partition.Partition.{Partition}
 use Rattle.mt_values.specs.declared.schema.Schema.{Schema}
 use Rattle.mt_model.specs.Explain.{Portion, PortionStands, PortionsStand, has_number}
 use Rattle.mt_model.specs.History.{History, schema_of}
+use Rattle.mt_model.specs.Reaches.{ReachStands}
 use Rattle.part_history.specs.declared.part.CorePart.{CorePart}
-use Rattle.part_history.specs.Parts.{PartStands, TableStands, has_block, portion_of}
+use Rattle.part_history.specs.Parts.{PartStands, TableStands, has_block, portion_of, reach_of_part}
 use Rattle.part_history.proofs.Schemas.{same_schema}
 
 -- as many portions have a number as parts have it in their blocks
@@ -23,9 +24,7 @@ module _ (h : History) (table : List ℕ) (schema : Schema) (there : schema_of t
   one : (p : CorePart) → p.table ≡ table → PartStands h p → PortionStands h table schema (portion_of p)
   one p own s =
       let same : s.schema ≡ schema = same_schema s.schema schema (sym s.there ∙ (ap (λ t. schema_of t h) own ∙ there)) in
-      let stands : PortionStands h p.table s.schema (portion_of p) =
-      record { order = s.order; first = s.least; last = s.greatest; rising = s.rising; partly = s.partly } in
-      subst (λ (t : List ℕ). PortionStands h t schema (portion_of p)) own (subst (λ (x : Schema). PortionStands h p.table x (portion_of p)) same stands)
+      subst (λ (t : List ℕ). PortionStands h t schema (portion_of p)) own (subst (λ (x : Schema). ReachStands h x (reach_of_part p) p.rows) same s.stands)
 
   each : (parts : List CorePart) → AllByRecursion (λ (p : CorePart). p.table ≡ table) parts → AllByRecursion (PartStands h) parts → AllByRecursion (PortionStands h table schema) (map portion_of parts)
   each [] own all = tt

@@ -9,9 +9,9 @@ use Rattle.mt_values.specs.declared.command.Command.{Command}
 use Rattle.mt_values.specs.declared.command.Command.TheVariants as command
 use Rattle.mt_values.specs.declared.command.Insert.{Insert}
 use Rattle.mt_values.specs.Tables.{same_partition}
-use Rattle.mt_model.specs.Numbers.{is_within, lies_within}
+use Rattle.mt_model.specs.Numbers.{lies_within}
 use Rattle.mt_model.proofs.Commands.{partition_is}
-use Rattle.part_history.proofs.Numbered.{kept, kept_if}
+use Rattle.part_history.proofs.Numbered.{is_kept, kept, kept_if}
 
 -- the least and the greatest number of a range
 abbrev pub Range : Type 0
@@ -63,12 +63,12 @@ pub and_false : (b : Bool) → b && false ≡ false
 and_false true = refl
 and_false false = refl
 
--- whether a command is within a range goes by its number
-within_as : (w : Partition) (a b d e n : ℕ) (c : Command) → lies_within a b n ≡ lies_within d e n → is_within w a b n c ≡ is_within w d e n c
-within_as w a b d e n (command.Create c) same = refl
-within_as w a b d e n (command.Insert i) same = ap (λ s. same_partition i.partition w && s) same
+-- whether a command is kept in a range goes by its number
+kept_as : (w : Partition) (a b d e n : ℕ) (c : Command) → lies_within a b n ≡ lies_within d e n → is_kept w a b n c ≡ is_kept w d e n c
+kept_as w a b d e n (command.Create c) same = refl
+kept_as w a b d e n (command.Insert i) same = ap (λ s. same_partition i.partition w && s) same
 
-pub outside : (w : Partition) (a b n : ℕ) (c : Command) → lies_within a b n ≡ false → is_within w a b n c ≡ false
+pub outside : (w : Partition) (a b n : ℕ) (c : Command) → lies_within a b n ≡ false → is_kept w a b n c ≡ false
 outside w a b n (command.Create c) is = refl
 outside w a b n (command.Insert i) is = ap (λ s. same_partition i.partition w && s) is ∙ and_false (same_partition i.partition w)
 
@@ -84,7 +84,7 @@ if_front false c xs ys = refl
 kept_begun : (w : Partition) (a d b n : ℕ) (cs : List Command) → a ≤ n → d ≤ n → kept w a b n cs ≡ kept w d b n cs
 kept_begun w a d b n [] first second = refl
 kept_begun w a d b n (c ∷ cs) first second =
-    ap₂ (λ s xs. kept_if s c xs) (within_as w a b d b n c (both (cases_lt b n))) (kept_begun w a d b (n + 1) cs (omega arith) (omega arith))
+    ap₂ (λ s xs. kept_if s c xs) (kept_as w a b d b n c (both (cases_lt b n))) (kept_begun w a d b (n + 1) cs (omega arith) (omega arith))
   where
     both : (b < n) ⊎ (n ≤ b) → lies_within a b n ≡ lies_within d b n
     both (inl above) = lies_above a b n above ∙ sym (lies_above d b n above)
@@ -108,9 +108,9 @@ kept_joined w a b top n (c ∷ cs) first second = by (cases_lt n a) (cases_lt b 
     by (inr from) (inr upto) more =
         let under : n < b + 1 = omega (arith, upto) in
         let most : n ≤ top = omega (arith, upto, second) in
-        let same = within_as w a b a top n c (lies_inside a b n from upto ∙ sym (lies_inside a top n from most)) in
+        let same = kept_as w a b a top n c (lies_inside a b n from upto ∙ sym (lies_inside a top n from most)) in
         ap₂ (λ s t. kept_if s c (kept w a b (n + 1) cs) ++ kept_if t c (kept w (b + 1) top (n + 1) cs)) same (outside w (b + 1) top n c (lies_below (b + 1) top n under))
-        ∙ (sym (if_front (is_within w a top n c) c (kept w a b (n + 1) cs) (kept w (b + 1) top (n + 1) cs)) ∙ ap (kept_if (is_within w a top n c) c) more)
+        ∙ (sym (if_front (is_kept w a top n c) c (kept w a b (n + 1) cs) (kept w (b + 1) top (n + 1) cs)) ∙ ap (kept_if (is_kept w a top n c) c) more)
 
 -- each range ends below all those after it
 abbrev pub Apart : List Range → Type 0
@@ -141,7 +141,7 @@ kept_none w a b n [] none = refl
 kept_none w a b n (c ∷ cs) none =
     ap₂ (λ s xs. kept_if s c xs) (first c none) (kept_none w a b (n + 1) cs (λ m from upto is. none m from upto (of_later w n c cs m is)))
   where
-    first : (d : Command) → ((m : ℕ) → a ≤ m → m ≤ b → IsOf w n (d ∷ cs) m → ⊥) → is_within w a b n d ≡ false
+    first : (d : Command) → ((m : ℕ) → a ≤ m → m ≤ b → IsOf w n (d ∷ cs) m → ⊥) → is_kept w a b n d ≡ false
     first (command.Create d) none = refl
     first (command.Insert i) none = by (same_partition i.partition w) refl (cases_lt n a) (cases_lt b n)
       where

@@ -1,5 +1,5 @@
 -- Parts that stand for a history (docs/definitions.md, "The core").
-use Rattle.std.specs.Prelude.{◌≡◌, ◌≤◌, ◌&&◌, ℕ, Bool, List, All, Some, filter}
+use Rattle.std.specs.Prelude.{◌≡◌, ◌&&◌, ℕ, Bool, List, All, Some, filter}
 use Rattle.std.specs.List.{count_by, flat_map}
 use Rattle.std.specs.List.Sorted.{IsSorted}
 use Rattle.std.specs.Ordering.{nat_cmp, ordering_then}
@@ -9,13 +9,14 @@ use Rattle.mt_base.specs.declared.partition.Partition.{Partition}
 use Rattle.mt_base.specs.declared.partition.Partition.TheVariants.{Whole, Number}
 use Rattle.mt_values.specs.declared.schema.Schema.{Schema}
 use Rattle.mt_values.specs.Grammar.{same_bytes}
-use Rattle.mt_values.specs.Tables.{same_partition, sorting_cmp}
+use Rattle.mt_values.specs.Tables.{same_partition}
 use Rattle.mt_values.specs.Values.{Row}
 use Rattle.mt_model.specs.Explain.{Portion}
 use Rattle.mt_model.specs.History.{History, schema_of}
-use Rattle.mt_model.specs.Live.{live}
-use Rattle.mt_model.specs.Numbers.{IsNumberOfInsert, lies_within, within}
-use Rattle.mt_model.specs.Partial.{Partly}
+use Rattle.mt_model.specs.Numbers.{IsNumberOfInsert, Reach, lies_within}
+use Rattle.mt_model.specs.Reaches.{ReachStands}
+use Rattle.part_name.specs.declared.part.PartName.{PartName}
+use Rattle.part_name.specs.PartNames.{data_version}
 use Rattle.part_history.specs.declared.part.CorePart.{CorePart}
 
 -- the parts of a table, in their order (docs/definitions.md, "The core")
@@ -34,15 +35,25 @@ rows_of_parts parts = flat_map (λ (p : CorePart). p.rows) parts
 abbrev pub has_block : Partition → ℕ → CorePart → Bool
 has_block partition n part = same_partition part.name.partition partition && lies_within part.name.min_block part.name.max_block n
 
+-- what the name of a table's part reaches: the INSERTs of its blocks, with mutations up to its data version (docs/definitions.md, "The core")
+abbrev pub reach_of : List ℕ → PartName → Reach
+reach_of table name = record {
+  table = table;
+  partition = name.partition;
+  least = name.min_block;
+  greatest = name.max_block;
+  version = data_version name;
+}
+
+-- what a part reaches (docs/definitions.md, "The core")
+abbrev pub reach_of_part : CorePart → Reach
+reach_of_part part = reach_of part.table part.name
+
 -- a part stands for the INSERTs into its table and partition whose numbers lie within its blocks, of which there is one at least (docs/definitions.md, "The core")
 pub record PartStands (h : History) (part : CorePart) : Type 0 where
   pub schema : Schema
   pub there : schema_of part.table h ≡ Some schema
-  pub order : part.name.min_block ≤ part.name.max_block
-  pub least : IsNumberOfInsert part.table part.name.partition part.name.min_block h
-  pub greatest : IsNumberOfInsert part.table part.name.partition part.name.max_block h
-  pub rising : IsSorted (sorting_cmp schema) part.rows
-  pub partly : Partly schema (live part.table schema (within part.table part.name.partition part.name.min_block part.name.max_block h)) part.rows
+  pub stands : ReachStands h schema (reach_of_part part) part.rows
 
 -- parts of one table stand for its commands: each number of an INSERT is in the blocks of exactly one of its partition (docs/definitions.md, "The core")
 pub record TableStands (table : List ℕ) (parts : List CorePart) (h : History) : Type 0 where
@@ -70,5 +81,10 @@ AreInBlockOrder parts = IsSorted block_cmp parts
 
 -- the rows that a part keeps together, without its name (docs/definitions-of-runs.md, "Explained reads")
 abbrev pub portion_of : CorePart → Portion
-portion_of p =
-    record { partition = p.name.partition; least = p.name.min_block; greatest = p.name.max_block; rows = p.rows }
+portion_of p = record {
+  partition = p.name.partition;
+  least = p.name.min_block;
+  greatest = p.name.max_block;
+  version = data_version p.name;
+  rows = p.rows;
+}
