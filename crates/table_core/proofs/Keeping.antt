@@ -35,7 +35,7 @@ use Rattle.part_history.specs.part_name.Merged.{merged_name, merged_of}
 use Rattle.part_history.specs.declared.part.CorePart.{CorePart}
 use Rattle.part_history.specs.Merges.{names_of}
 use Rattle.table_core.specs.declared.event.Guard.TheVariants as guard
-use Rattle.table_core.specs.declared.event.Merge.{Merge}
+use Rattle.table_core.specs.declared.event.Put.{Put}
 use Rattle.table_core.specs.declared.event.Outcome.TheVariants as outcome
 use Rattle.table_core.specs.declared.snapshot.Snapshot.{Snapshot}
 use Rattle.table_core.specs.declared.store.Run.{Run}
@@ -45,7 +45,7 @@ use Rattle.table_core.specs.Core.{Core, IsCore}
 use Rattle.part_history.specs.mt_model.Numbers.{draws, numbered}
 use Rattle.part_history.specs.Parts.{AreInBlockOrder, TableStands, core_parts_of}
 use Rattle.part_history.specs.Entered.{part_of_insert, parts_after, parts_upto, with_part}
-use Rattle.table_core.specs.Steps.{AcceptsInsert, AddsPart, HasNeighbours, MayPut, PutGives, PutsMerge, beside, part_of_merge, snapshot_of, sources_among}
+use Rattle.table_core.specs.Steps.{AcceptsInsert, AddsPart, HasNeighbours, MayPut, PutGives, PutsMerge, beside, part_of_put, snapshot_of, sources_among}
 use Rattle.table_core.specs.Store.{AddsTable, IsNotNamed, IsStore, Named, SameTables, RunStands, StandsAt, TableKept, core_of, empty_table, grown_table, name_by, parts_of_tables, swapped_table, table_names}
 use Rattle.part_history.proofs.Merging.{all_swapped}
 use Rattle.part_history.proofs.Growing.{drawn_apart, drawn_here, placed_all}
@@ -427,43 +427,43 @@ others_between t front back here apart own =
     (filter-append f here.1.parts (parts_of_tables back)
     ∙ ap (λ (xs : List CorePart). xs ++ core_parts_of t (parts_of_tables back)) (others_none t here.0.items here.1.parts apart (recursion_from_All (λ (p : CorePart). p.table ≡ here.0.items) here.1.parts own))))
 
-module _ (store : Store) (m : Merge) (place : ℕ) (is : IsStore store) (s : StandsAt store.tables.entries m.table place) where
+module _ (store : Store) (m : Put) (place : ℕ) (is : IsStore store) (s : StandsAt store.tables.entries m.sources.table place) where
   -- a merge is of neighbours of the table that stands there
-  pub neighbours_are : HasNeighbours s.here.1.parts m → HasNeighbours (beside (core_of store) m) m
-  neighbours_are has = subst (λ (ps : List CorePart). HasNeighbours ps m) (sym (parts_here store is m.table place s)) has
+  pub neighbours_are : HasNeighbours s.here.1.parts m.sources → HasNeighbours (beside (core_of store) m.sources) m.sources
+  neighbours_are has = subst (λ (ps : List CorePart). HasNeighbours ps m.sources) (sym (parts_here store is m.sources.table place s)) has
 
-  pub put_unfound : (HasNeighbours s.here.1.parts m → ⊥) → PutGives (core_of store) m (outcome.Refused guard.NotNeighbours) (core_of store)
+  pub put_unfound : (HasNeighbours s.here.1.parts m.sources → ⊥) → PutGives (core_of store) m (outcome.Refused guard.NotNeighbours) (core_of store)
   put_unfound none =
-      (ap is_some (schema_here store is m.table place s), (λ has. none (subst (λ (ps : List CorePart). HasNeighbours ps m) (parts_here store is m.table place s) has)), refl)
+      (ap is_some (schema_here store is m.sources.table place s), (λ has. none (subst (λ (ps : List CorePart). HasNeighbours ps m.sources) (parts_here store is m.sources.table place s) has)), refl)
 
   -- a run that stands there has a name
-  run_named : (run : Run) → RunStands s.here.1.parts m run → (name : PartName) × (merged_of (names_of (sources_among s.here.1.parts m)) ≡ Some name)
-  run_named run at = by (sources_among s.here.1.parts m) (sources_length s.here.1.parts m at.there)
+  run_named : (run : Run) → RunStands s.here.1.parts m.sources run → (name : PartName) × (merged_of (names_of (sources_among s.here.1.parts m.sources)) ≡ Some name)
+  run_named run at = by (sources_among s.here.1.parts m.sources) (sources_length s.here.1.parts m.sources at.there)
     where
-      by : (ps : List CorePart) → length ps ≡ m.count → (name : PartName) × (merged_of (names_of ps) ≡ Some name)
+      by : (ps : List CorePart) → length ps ≡ m.sources.count → (name : PartName) × (merged_of (names_of ps) ≡ Some name)
       by [] none = absurd (omega (arith, none, at.there.some))
       by (p ∷ ps) some = (merged_name p.name (names_of ps), refl)
 
-  pub put_unleveled : (run : Run) → RunStands s.here.1.parts m run → ((name : PartName) → merged_of (names_of (sources_among s.here.1.parts m)) ≡ Some name → 4294967295 < name.level)
+  pub put_unleveled : (run : Run) → RunStands s.here.1.parts m.sources run → ((name : PartName) → merged_of (names_of (sources_among s.here.1.parts m.sources)) ≡ Some name → 4294967295 < name.level)
       → PutGives (core_of store) m (outcome.Refused guard.Levels) (core_of store)
   put_unleveled run at past =
       let named = run_named run at in (
-        ap is_some (schema_here store is m.table place s),
+        ap is_some (schema_here store is m.sources.table place s),
         record {
           neighbours = neighbours_are at.there;
           name = named.0;
-          named = subst (λ (ps : List CorePart). merged_of (names_of (sources_among ps m)) ≡ Some named.0) (sym (parts_here store is m.table place s)) named.1;
+          named = subst (λ (ps : List CorePart). merged_of (names_of (sources_among ps m.sources)) ≡ Some named.0) (sym (parts_here store is m.sources.table place s)) named.1;
           past = past named.0 named.1;
         },
         refl,
       )
 
-module _ (old new : Store) (m : Merge) (name : PartName) (place : ℕ) (run : Run) (is : IsStore old) (s : StandsAt old.tables.entries m.table place) (at : RunStands s.here.1.parts m run)
-    (named : merged_of (names_of (sources_among s.here.1.parts m)) ≡ Some name) (room : name.level ≤ 4294967295)
-    (tables : new.tables.entries ≡ set_value_at old.tables.entries place (swapped_table s.here.1 run (part_of_merge m name)))
+module _ (old new : Store) (m : Put) (name : PartName) (place : ℕ) (run : Run) (is : IsStore old) (s : StandsAt old.tables.entries m.sources.table place) (at : RunStands s.here.1.parts m.sources run)
+    (named : merged_of (names_of (sources_among s.here.1.parts m.sources)) ≡ Some name) (room : name.level ≤ 4294967295)
+    (tables : new.tables.entries ≡ set_value_at old.tables.entries place (swapped_table s.here.1 run (part_of_put m name)))
     (entries : new.entries.items ≡ old.entries.items) (snapshots : new.snapshots.items ≡ old.snapshots.items) where
   abbrev merged : CorePart
-  merged = part_of_merge m name
+  merged = part_of_put m name
 
   abbrev swapped : Named
   swapped = (s.here.0, swapped_table s.here.1 run merged)
@@ -474,30 +474,30 @@ module _ (old new : Store) (m : Merge) (name : PartName) (place : ℕ) (run : Ru
       ∙ (ap₂ (λ (ts : List Named) (k : ℕ). set_value_at ts k (swapped_table s.here.1 run merged)) s.tables_are s.place_is ∙ set_here s.front s.back s.here (swapped_table s.here.1 run merged))
 
   parts_swapped : swapped.1.parts ≡ at.front ++ merged ∷ at.back
-  parts_swapped = run_swapped s.here.1.parts m run at merged
+  parts_swapped = run_swapped s.here.1.parts m.sources run at merged
 
   own_was : OwnParts s.here
-  own_was = (kept_here old is m.table place s).own
+  own_was = (kept_here old is m.sources.table place s).own
 
   own_swapped : OwnParts swapped
   own_swapped =
       let mine : CorePart → Type 0 = λ p. p.table ≡ s.here.0.items in
       subst (All mine) (sym parts_swapped)
       (All-from_recursion mine (at.front ++ merged ∷ at.back)
-      (all_swapped mine at.front (sources_among s.here.1.parts m) at.back merged
-      (recursion_from_All mine (at.front ++ (sources_among s.here.1.parts m ++ at.back)) (subst (All mine) at.parts_are own_was)) (sym s.name_is)))
+      (all_swapped mine at.front (sources_among s.here.1.parts m.sources) at.back merged
+      (recursion_from_All mine (at.front ++ (sources_among s.here.1.parts m.sources ++ at.back)) (subst (All mine) at.parts_are own_was)) (sym s.name_is)))
 
-  beside_was : beside (core_of old) m ≡ s.here.1.parts
-  beside_was = parts_here old is m.table place s
+  beside_was : beside (core_of old) m.sources ≡ s.here.1.parts
+  beside_was = parts_here old is m.sources.table place s
 
-  beside_now : core_parts_of m.table (parts_of_tables new.tables.entries) ≡ at.front ++ merged ∷ at.back
+  beside_now : core_parts_of m.sources.table (parts_of_tables new.tables.entries) ≡ at.front ++ merged ∷ at.back
   beside_now =
-      ap (λ ts. core_parts_of m.table (parts_of_tables ts)) swapped_now
-      ∙ (parts_between m.table old.entries.items s.front s.back swapped s.before s.behind (kept_front old is m.table place s) (kept_back old is m.table place s)
+      ap (λ ts. core_parts_of m.sources.table (parts_of_tables ts)) swapped_now
+      ∙ (parts_between m.sources.table old.entries.items s.front s.back swapped s.before s.behind (kept_front old is m.sources.table place s) (kept_back old is m.sources.table place s)
       (subst (λ (n : List ℕ). All (λ (p : CorePart). p.table ≡ n) swapped.1.parts) s.name_is own_swapped)
       ∙ parts_swapped)
 
-  others_stay : (t : List ℕ) → same_bytes m.table t ≡ false → core_parts_of t (parts_of_tables new.tables.entries) ≡ core_parts_of t (parts_of_tables old.tables.entries)
+  others_stay : (t : List ℕ) → same_bytes m.sources.table t ≡ false → core_parts_of t (parts_of_tables new.tables.entries) ≡ core_parts_of t (parts_of_tables old.tables.entries)
   others_stay t apart =
       let other : same_bytes s.here.0.items t ≡ false = ap (λ n. same_bytes n t) s.name_is ∙ apart in
       ap (λ ts. core_parts_of t (parts_of_tables ts)) swapped_now
@@ -505,14 +505,14 @@ module _ (old new : Store) (m : Merge) (name : PartName) (place : ℕ) (run : Ru
 
   pub put_done : PutsMerge (core_of old) m name (core_of new)
   put_done = record {
-    there = ap is_some (schema_here old is m.table place s);
+    there = ap is_some (schema_here old is m.sources.table place s);
     neighbours = neighbours_are old m place is s at.there;
-    named = subst (λ (ps : List CorePart). merged_of (names_of (sources_among ps m)) ≡ Some name) (sym beside_was) named;
+    named = subst (λ (ps : List CorePart). merged_of (names_of (sources_among ps m.sources)) ≡ Some name) (sym beside_was) named;
     room = room;
     parts = record {
       front = at.front;
       behind = at.back;
-      old_is = subst (λ (ps : List CorePart). ps ≡ at.front ++ (sources_among ps m ++ at.back)) (sym beside_was) at.parts_are;
+      old_is = subst (λ (ps : List CorePart). ps ≡ at.front ++ (sources_among ps m.sources ++ at.back)) (sym beside_was) at.parts_are;
       new_is = beside_now;
       others = others_stay;
     };
@@ -521,13 +521,13 @@ module _ (old new : Store) (m : Merge) (name : PartName) (place : ℕ) (run : Ru
   }
 
   swapped_kept : TableKept old.entries.items swapped
-  swapped_kept = let here = kept_here old is m.table place s in record { schema_is = here.schema_is; last_is = here.last_is; own = own_swapped }
+  swapped_kept = let here = kept_here old is m.sources.table place s in record { schema_is = here.schema_is; last_is = here.last_is; own = own_swapped }
 
   pub put_store : MayPut (core_of old) m → IsStore new
   put_store may =
       let name_of = λ (t : Named). t.0.items in
       let all : AllByRecursion (TableKept old.entries.items) (s.front ++ swapped ∷ s.back) =
-      all_both (TableKept old.entries.items) s.front (swapped ∷ s.back) (kept_front old is m.table place s) (swapped_kept, kept_back old is m.table place s) in
+      all_both (TableKept old.entries.items) s.front (swapped ∷ s.back) (kept_front old is m.sources.table place s) (swapped_kept, kept_back old is m.sources.table place s) in
       record {
         core = put_core (core_of old) (core_of new) m name is.core may put_done;
         names = ap (map name_of) swapped_now

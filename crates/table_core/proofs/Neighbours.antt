@@ -1,5 +1,5 @@
 -- Where neighbours stand in the list of a table's parts, and what a merge makes of their names.
-use Rattle.std.proofs.Common.{◌≡◌, ℕ, ◌+◌, ◌-◌, ◌<◌, ◌≤◌, Bool, true, false, cond, List, [], ◌∷◌, ◌++◌, Option, Some, None, filter, length, get_or, set, take, drop, nat_eq, nat_lt, refl, sym, ap, ap₂, ◌∙◌, subst, append_assoc, length-append, length-drop, length-take-le, take-append-drop, arith, zero, suc, inl, inr, ◌⊎◌}
+use Rattle.std.proofs.Common.{◌≡◌, ℕ, ◌+◌, ◌<◌, ◌≤◌, Bool, true, false, cond, List, [], ◌∷◌, ◌++◌, Option, Some, None, filter, length, get_or, set, take, drop, nat_eq, nat_lt, refl, sym, ap, ap₂, ◌∙◌, subst, append_assoc, length-append, length-drop, length-take-le, take-append-drop, arith, zero, suc, inl, inr, ◌⊎◌}
 use Rattle.std.specs.Prelude.{IfSome, IfNone}
 use Rattle.std.specs.List.{AllByRecursion, AllWithin, fold}
 use Rattle.std.specs.List.Sorted.{IsPartitionedBy}
@@ -19,7 +19,7 @@ use Rattle.part_history.specs.Merges.{names_of}
 use Rattle.part_history.specs.Parts.{AreInBlockOrder, block_cmp, partition_cmp, parts_in}
 use Rattle.part_history.proofs.Ordered.{IsAfter, all_after, later_after, parts_parted}
 use Rattle.part_history.proofs.Orders.{block_weak}
-use Rattle.table_core.specs.declared.event.Merge.{Merge}
+use Rattle.table_core.specs.declared.event.Sources.{Sources}
 use Rattle.table_core.specs.declared.store.Run.{Run}
 use Rattle.table_core.specs.Steps.{HasNeighbours, sources_among}
 use Rattle.table_core.specs.Store.{LiesIn, RunStands, parts_below}
@@ -176,7 +176,7 @@ end_is w ps start end up from within front =
 -- ---- the sources of a merge
 
 -- the sources stand after those below their partition and those of it before the first
-pub sources_stand : (ps : List CorePart) (m : Merge) (run : Run) → AreInBlockOrder ps → HasNeighbours ps m → run.from ≡ length (parts_below m.partition ps) + m.first → run.count ≡ m.count → RunStands ps m run
+pub sources_stand : (ps : List CorePart) (m : Sources) (run : Run) → AreInBlockOrder ps → HasNeighbours ps m → run.from ≡ length (parts_below m.partition ps) + m.first → run.count ≡ m.count → RunStands ps m run
 sources_stand ps m run up has from count = record {
   there = has;
   front = below ++ take m.first own;
@@ -206,13 +206,13 @@ sources_stand ps m run up has from count = record {
     after : List CorePart
     after = parts_after m.partition ps
 
-pub sources_length : (ps : List CorePart) (m : Merge) → HasNeighbours ps m → length (sources_among ps m) ≡ m.count
+pub sources_length : (ps : List CorePart) (m : Sources) → HasNeighbours ps m → length (sources_among ps m) ≡ m.count
 sources_length ps m has =
     let within = has.within in
     let rest = length-drop m.first (parts_in m.partition ps) in
     length-take-le m.count (drop m.first (parts_in m.partition ps)) (omega (arith, rest, within))
 
-pub run_lies : (ps : List CorePart) (m : Merge) (run : Run) → RunStands ps m run → LiesIn run ps
+pub run_lies : (ps : List CorePart) (m : Sources) (run : Run) → RunStands ps m run → LiesIn run ps
 run_lies ps m run at =
     let many = sources_length ps m at.there in
     let all = ap length at.parts_are in
@@ -224,14 +224,14 @@ run_lies ps m run at =
     }
 
 -- the sources are what the run has
-pub run_is : (ps : List CorePart) (m : Merge) (run : Run) → RunStands ps m run → take run.count (drop run.from ps) ≡ sources_among ps m
+pub run_is : (ps : List CorePart) (m : Sources) (run : Run) → RunStands ps m run → take run.count (drop run.from ps) ≡ sources_among ps m
 run_is ps m run at =
     let many = sources_length ps m at.there in
     ap (λ (xs : List CorePart). take run.count xs) (ap (drop run.from) at.parts_are ∙ drop_front at.front (sources_among ps m ++ at.back) run.from at.from_is)
     ∙ take_front (sources_among ps m) at.back run.count (omega (arith, many, at.count_is))
 
 -- one part in their place
-pub run_swapped : (ps : List CorePart) (m : Merge) (run : Run) (at : RunStands ps m run) (part : CorePart) → take run.from ps ++ part ∷ drop (run.from + run.count) ps ≡ at.front ++ part ∷ at.back
+pub run_swapped : (ps : List CorePart) (m : Sources) (run : Run) (at : RunStands ps m run) (part : CorePart) → take run.from ps ++ part ∷ drop (run.from + run.count) ps ≡ at.front ++ part ∷ at.back
 run_swapped ps m run at part =
     let many = sources_length ps m at.there in
     let sources = sources_among ps m in

@@ -5,6 +5,7 @@ use Rattle.std.specs.List.{AllByRecursion}
 use Rattle.std.proofs.lemmas.List.{take_all, take-append-drop, take-append-le}
 use Rattle.std.proofs.lemmas.List.Elements.{All-from_recursion, All-nil, All-push, All-weaker, filter-append}
 use Rattle.std.proofs.lemmas.Option.{get_or_from_slice_get, slice_get_within}
+use Rattle.mt_values.specs.declared.command.Command.{Command}
 use Rattle.mt_values.specs.declared.command.Command.TheVariants as command
 use Rattle.mt_values.specs.declared.command.Create.{Create}
 use Rattle.mt_values.specs.declared.command.Entry.{Entry}
@@ -15,14 +16,12 @@ use Rattle.mt_values.specs.Grammar.{same_bytes}
 use Rattle.part_history.specs.mt_model.History.{History, IsInsertInto, IsLegal, IsTableSchema, creates, entered, schema_of}
 use Rattle.part_history.proofs.MtModelHistories.{legal_front, legal_push}
 use Rattle.part_history.proofs.MtModelTables.{itself_same, same_is}
-use Rattle.table_core.specs.declared.event.Accept.{Accept}
-use Rattle.table_core.specs.declared.event.Accept.TheVariants as accept
 use Rattle.table_core.specs.declared.event.Crash.{Crash}
 use Rattle.table_core.specs.declared.event.Crash.TheVariants as crash
 use Rattle.table_core.specs.declared.event.Event.{Event}
 use Rattle.table_core.specs.declared.event.Event.TheVariants as event
 use Rattle.table_core.specs.declared.event.Guard.TheVariants as guard
-use Rattle.table_core.specs.declared.event.Merge.{Merge}
+use Rattle.table_core.specs.declared.event.Put.{Put}
 use Rattle.table_core.specs.declared.event.Outcome.{Outcome}
 use Rattle.table_core.specs.declared.event.Outcome.TheVariants as outcome
 use Rattle.part_history.specs.part_name.declared.part.PartName.{PartName}
@@ -34,7 +33,7 @@ use Rattle.table_core.specs.declared.snapshot.Snapshot.{Snapshot}
 use Rattle.table_core.specs.Core.{Core, IsCore, IsSnapshot}
 use Rattle.part_history.specs.Parts.{AreInBlockOrder, PartsStand, TableStands, core_parts_of, parts_in, rows_of_parts}
 use Rattle.part_history.specs.Entered.{next_number, part_of_insert}
-use Rattle.table_core.specs.Steps.{AcceptGives, AcceptsInsert, AddsPart, AreLeftOf, CrashMeets, GivesOutcome, MayAccept, MayCome, MayCrash, MayPut, PutGives, PutsMerge, SwapsParts, beside, part_of_merge, snapshot_of, sources_among, without_snapshots}
+use Rattle.table_core.specs.Steps.{AcceptGives, AcceptsInsert, AddsPart, AreLeftOf, CrashMeets, GivesOutcome, MayAccept, MayCome, MayCrash, MayPut, PutGives, PutsMerge, beside, part_of_put, snapshot_of, sources_among, without_snapshots}
 use Rattle.part_history.proofs.Growing.{drawn_apart, table_entered, table_kept}
 use Rattle.part_history.proofs.Joined.{all_of, parts_joined}
 use Rattle.part_history.proofs.Merging.{merged_order, merged_stand}
@@ -113,10 +112,10 @@ pub record Took (old new : Core) : Type 0 where
   pub new_is : new ≡ record { parts = old.parts; history = old.history; snapshots = old.snapshots ++ snapshot_of table old ∷ [] }
 
 pub record Merged (old new : Core) : Type 0 where
-  pub merge : Merge
+  pub put : Put
   pub name : PartName
-  pub may : MayPut old merge
-  pub puts : PutsMerge old merge name new
+  pub may : MayPut old put
+  pub puts : PutsMerge old put name new
 
 -- an accept or a put leaves the state as it was, or makes a table, or adds a part, or puts one in place of others
 pub data Entered (old new : Core) : Type 0 where
@@ -130,18 +129,18 @@ pub data Change (old new : Core) : Type 0 where
   Taken : Took old new → Change old new
   Ended : (met : Core) → Entered old met → new ≡ without_snapshots met → Change old new
 
-pub enters : (old new : Core) (a : Accept) (given : Outcome) → MayAccept old.history a → AcceptGives old a given new → Entered old new
-enters old new (accept.Create session c) (outcome.Accepted place) may g = Made (record { session = session; create = c; schema = may; absent = g.0; few = g.1; new_is = g.3 })
-enters old new (accept.Create session c) (outcome.Refused guard.TableExists) may g = Same g.1
-enters old new (accept.Create session c) (outcome.Refused guard.Creates) may g = Same g.2
-enters old new (accept.Insert session i) (outcome.Accepted place) may g = Added (record { session = session; insert = i; place = place; accepts = g; into = may g.schema g.there })
-enters old new (accept.Insert session i) (outcome.Refused guard.NoTable) may g = Same g.1
-enters old new (accept.Insert session i) (outcome.Refused guard.Numbers) may g = Same g.2
-enters old new (accept.Create session c) given may g = absurd g
-enters old new (accept.Insert session i) given may g = absurd g
+pub enters : (old new : Core) (session : ℕ) (c : Command) (given : Outcome) → MayAccept old.history c → AcceptGives old session c given new → Entered old new
+enters old new session (command.Create c) (outcome.Accepted place) may g = Made (record { session = session; create = c; schema = may; absent = g.0; few = g.1; new_is = g.3 })
+enters old new session (command.Create c) (outcome.Refused guard.TableExists) may g = Same g.1
+enters old new session (command.Create c) (outcome.Refused guard.Creates) may g = Same g.2
+enters old new session (command.Insert i) (outcome.Accepted place) may g = Added (record { session = session; insert = i; place = place; accepts = g; into = may g.schema g.there })
+enters old new session (command.Insert i) (outcome.Refused guard.NoTable) may g = Same g.1
+enters old new session (command.Insert i) (outcome.Refused guard.Numbers) may g = Same g.2
+enters old new session (command.Create c) given may g = absurd g
+enters old new session (command.Insert i) given may g = absurd g
 
-pub puts : (old new : Core) (m : Merge) (given : Outcome) → MayPut old m → PutGives old m given new → Entered old new
-puts old new m (outcome.Put name) may g = Swapped (record { merge = m; name = name; may = may; puts = g })
+pub puts : (old new : Core) (m : Put) (given : Outcome) → MayPut old m → PutGives old m given new → Entered old new
+puts old new m (outcome.Put name) may g = Swapped (record { put = m; name = name; may = may; puts = g })
 puts old new m (outcome.Refused guard.NoTable) may g = Same g.1
 puts old new m (outcome.Refused guard.NotNeighbours) may g = Same g.2
 puts old new m (outcome.Refused guard.Levels) may g = Same g.2
@@ -150,14 +149,14 @@ puts old new m given may g = absurd g
 -- what a crash meets
 pub meets : (old met : Core) (c : Crash) → MayCrash old c → CrashMeets old c met → Entered old met
 meets old met crash.Between may m = Same m
-meets old met (crash.Within a false) may m = Same m
-meets old met (crash.Within a true) may m = enters old met a m.0 may m.1
+meets old met (crash.Within e false) may m = Same m
+meets old met (crash.Within e true) may m = enters old met e.session e.command m.0 may m.1
 meets old met (crash.WithinPut p false) may m = Same m
 meets old met (crash.WithinPut p true) may m = puts old met p m.0 may m.1
 
 pub changes : (old new : Core) (e : Event) (given : Outcome) → MayCome old e → GivesOutcome old e given new → Change old new
-changes old new (event.Accept a) given may g = Entering (enters old new a given may g)
-changes old new (event.PutMerge m) given may g = Entering (puts old new m given may g)
+changes old new (event.Accept e) given may g = Entering (enters old new e.session e.command given may g)
+changes old new (event.Put m) given may g = Entering (puts old new m given may g)
 changes old new (event.TakeSnapshot table) (outcome.Taken number) may g = Taken (record { table = table; there = g.0; new_is = g.2 })
 changes old new (event.TakeSnapshot table) (outcome.Refused guard.NoTable) may g = Entering (Same g.1)
 changes old new (event.ReadSnapshot number) (outcome.Rows rows place) may g = Entering (Same g.4)
@@ -276,55 +275,55 @@ module _ (old new : Core) (session : ℕ) (i : Insert) (place : ℕ) (is : IsCor
       }
 
 -- parts in place of which a merge's part is put
-module _ (old new : Core) (m : Merge) (name : PartName) (is : IsCore old) (may : MayPut old m) (p : PutsMerge old m name new) where
+module _ (old new : Core) (m : Put) (name : PartName) (is : IsCore old) (may : MayPut old m) (p : PutsMerge old m name new) where
   abbrev merged : CorePart
-  merged = part_of_merge m name
+  merged = part_of_put m name
 
   abbrev sources : List CorePart
-  sources = sources_among (beside old m) m
+  sources = sources_among (beside old m.sources) m.sources
 
-  sources_own : AllByRecursion (λ (q : CorePart). q.name.partition ≡ m.partition) sources
+  sources_own : AllByRecursion (λ (q : CorePart). q.name.partition ≡ m.sources.partition) sources
   sources_own =
-      let beside_them = parts_in m.partition (beside old m) in
-      taken_all (λ (q : CorePart). q.name.partition ≡ m.partition) m.count (drop m.first beside_them)
-      (dropped_all (λ (q : CorePart). q.name.partition ≡ m.partition) m.first beside_them (all_of m.partition (beside old m)))
+      let beside_them = parts_in m.sources.partition (beside old m.sources) in
+      taken_all (λ (q : CorePart). q.name.partition ≡ m.sources.partition) m.sources.count (drop m.sources.first beside_them)
+      (dropped_all (λ (q : CorePart). q.name.partition ≡ m.sources.partition) m.sources.first beside_them (all_of m.sources.partition (beside old m.sources)))
 
   schema_there : (o : Option Schema) → IsSome o → (schema : Schema) × (o ≡ Some schema)
   schema_there None some = cc
   schema_there (Some schema) some = (schema, refl)
 
-  there : (schema : Schema) × (schema_of m.table old.history ≡ Some schema)
-  there = schema_there (schema_of m.table old.history) p.there
+  there : (schema : Schema) × (schema_of m.sources.table old.history ≡ Some schema)
+  there = schema_there (schema_of m.sources.table old.history) p.there
 
   is_merge : IsMergedPart old.history there.0 sources merged
   is_merge = record {
     named = p.named;
-    own = All-from_recursion (λ (q : CorePart). q.name.partition ≡ name.partition) sources (merged_own m.partition sources name sources_own p.named);
+    own = All-from_recursion (λ (q : CorePart). q.name.partition ≡ name.partition) sources (merged_own m.sources.partition sources name sources_own p.named);
     leaves = may there.0 there.1 p.neighbours;
   }
 
-  stands_was : TableStands m.table (p.parts.front ++ (sources ++ p.parts.behind)) old.history
-  stands_was = subst (λ (ps : List CorePart). TableStands m.table ps old.history) p.parts.old_is (is.parts m.table)
+  stands_was : TableStands m.sources.table (p.parts.front ++ (sources ++ p.parts.behind)) old.history
+  stands_was = subst (λ (ps : List CorePart). TableStands m.sources.table ps old.history) p.parts.old_is (is.parts m.sources.table)
 
   order_was : AreInBlockOrder (p.parts.front ++ (sources ++ p.parts.behind))
-  order_was = subst AreInBlockOrder p.parts.old_is (is.order m.table)
+  order_was = subst AreInBlockOrder p.parts.old_is (is.order m.sources.table)
 
   put_stands : PartsStand new.parts old.history
-  put_stands t = by (same_bytes m.table t) refl
+  put_stands t = by (same_bytes m.sources.table t) refl
     where
-      by : (b : Bool) → same_bytes m.table t ≡ b → TableStands t (core_parts_of t new.parts) old.history
+      by : (b : Bool) → same_bytes m.sources.table t ≡ b → TableStands t (core_parts_of t new.parts) old.history
       by true same =
-          subst (λ (u : List ℕ). TableStands u (core_parts_of u new.parts) old.history) (same_is m.table t same)
-          (subst (λ (ps : List CorePart). TableStands m.table ps old.history) (sym p.parts.new_is)
+          subst (λ (u : List ℕ). TableStands u (core_parts_of u new.parts) old.history) (same_is m.sources.table t same)
+          (subst (λ (ps : List CorePart). TableStands m.sources.table ps old.history) (sym p.parts.new_is)
           (merged_stand old.history there.0 p.parts.front sources p.parts.behind merged is.legal there.1 is_merge stands_was order_was))
       by false apart = subst (λ (ps : List CorePart). TableStands t ps old.history) (sym (p.parts.others t apart)) (is.parts t)
 
   put_order : (t : List ℕ) → AreInBlockOrder (core_parts_of t new.parts)
-  put_order t = by (same_bytes m.table t) refl
+  put_order t = by (same_bytes m.sources.table t) refl
     where
-      by : (b : Bool) → same_bytes m.table t ≡ b → AreInBlockOrder (core_parts_of t new.parts)
+      by : (b : Bool) → same_bytes m.sources.table t ≡ b → AreInBlockOrder (core_parts_of t new.parts)
       by true same =
-          subst (λ (u : List ℕ). AreInBlockOrder (core_parts_of u new.parts)) (same_is m.table t same)
+          subst (λ (u : List ℕ). AreInBlockOrder (core_parts_of u new.parts)) (same_is m.sources.table t same)
           (subst AreInBlockOrder (sym p.parts.new_is)
           (merged_order old.history there.0 p.parts.front sources p.parts.behind merged is.legal there.1 is_merge stands_was order_was))
       by false apart = subst AreInBlockOrder (sym (p.parts.others t apart)) (is.order t)
@@ -345,7 +344,7 @@ crash_core met is = record { legal = is.legal; parts = is.parts; order = is.orde
 enters_core : (old new : Core) → IsCore old → Entered old new → IsCore new
 enters_core old new is (Same same) = subst IsCore (sym same) is
 enters_core old new is (Made m) = subst IsCore (sym m.new_is) (create_core old m.session m.create is m.schema m.absent m.few)
-enters_core old new is (Swapped m) = put_core old new m.merge m.name is m.may m.puts
+enters_core old new is (Swapped m) = put_core old new m.put m.name is m.may m.puts
 enters_core old new is (Added a) = insert_core old new a.session a.insert a.place is a.accepts a.into
 
 change_core : (old new : Core) → IsCore old → Change old new → IsCore new

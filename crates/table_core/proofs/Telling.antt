@@ -2,25 +2,26 @@
 use Rattle.std.proofs.Common.{◌≡◌, ℕ, ◌+◌, ◌-◌, ◌≤◌, true, false, List, [], ◌∷◌, ◌++◌, Some, length, take, slice_get, refl, sym, ap, ◌∙◌, subst, append_assoc, append-nil, length-append, arith, zero, suc, inl, inr, ◌⊎◌}
 use Rattle.std.proofs.lemmas.List.{take-append-le}
 use Rattle.std.proofs.lemmas.Option.{get_or_from_slice_get, slice_get_within}
+use Rattle.mt_values.specs.declared.command.Command.{Command}
+use Rattle.mt_values.specs.declared.command.Command.TheVariants as command
+use Rattle.mt_values.specs.declared.command.Entry.{Entry}
 use Rattle.mt_values.specs.declared.schema.Schema.{Schema}
 use Rattle.mt_values.specs.Values.{Row}
 use Rattle.part_history.specs.mt_model.History.{History, schema_of}
 use Rattle.part_history.specs.mt_model.Live.{live}
 use Rattle.part_history.specs.mt_model.Partial.{Partly}
-use Rattle.table_core.specs.declared.event.Accept.{Accept}
-use Rattle.table_core.specs.declared.event.Accept.TheVariants as accept
 use Rattle.table_core.specs.declared.event.Crash.{Crash}
 use Rattle.table_core.specs.declared.event.Crash.TheVariants as crash
 use Rattle.table_core.specs.declared.event.Event.{Event}
 use Rattle.table_core.specs.declared.event.Event.TheVariants as event
 use Rattle.table_core.specs.declared.event.Guard.{Guard}
 use Rattle.table_core.specs.declared.event.Guard.TheVariants as guard
-use Rattle.table_core.specs.declared.event.Merge.{Merge}
 use Rattle.table_core.specs.declared.event.Outcome.{Outcome}
 use Rattle.table_core.specs.declared.event.Outcome.TheVariants as outcome
+use Rattle.table_core.specs.declared.event.Put.{Put}
 use Rattle.table_core.specs.declared.snapshot.Snapshot.{Snapshot}
 use Rattle.table_core.specs.Core.{Core, IsCore, IsSnapshot}
-use Rattle.table_core.specs.Runs.{AddsEntries, Comes, HasEntries, IsFrontOf, IsNoCrash, KeepsAccepted, KeepsHistory, KnowsSnapshots, MayRun, NoCrash, ReadsLeft, Runs, TakenAt, TellsLeft, TellsSnapshots, entry_of_accept}
+use Rattle.table_core.specs.Runs.{AddsEntries, Comes, HasEntries, IsFrontOf, IsNoCrash, KeepsAccepted, KeepsHistory, KnowsSnapshots, MayRun, NoCrash, ReadsLeft, Runs, TakenAt, TellsLeft, TellsSnapshots}
 use Rattle.table_core.specs.Steps.{AcceptGives, AreLeftOf, CrashMeets, GivesOutcome, MayCome, PutGives, snapshot_of, without_snapshots}
 use Rattle.part_history.proofs.Growing.{slice_last, slice_left}
 use Rattle.table_core.proofs.Stepping.{gives_core, reads_left}
@@ -28,9 +29,9 @@ use Rattle.table_core.proofs.Stepping.{gives_core, reads_left}
 -- ---- one event
 
 -- an accept adds its entry, and tells the new length
-record Accepts (old : Core) (a : Accept) (given : Outcome) (new : Core) : Type 0 where
+record Accepts (old : Core) (e : Entry) (given : Outcome) (new : Core) : Type 0 where
   given_is : given ≡ outcome.Accepted (length old.history + 1)
-  history : new.history ≡ old.history ++ entry_of_accept a ∷ []
+  history : new.history ≡ old.history ++ e ∷ []
   snapshots : new.snapshots ≡ old.snapshots
 
 -- or nothing
@@ -39,17 +40,17 @@ record Refuses (old : Core) (given : Outcome) (new : Core) : Type 0 where
   given_is : given ≡ outcome.Refused guard
   new_is : new ≡ old
 
-accepts_or_not : (old new : Core) (a : Accept) (given : Outcome) → AcceptGives old a given new → Accepts old a given new ⊎ Refuses old given new
-accepts_or_not old new (accept.Create session c) (outcome.Accepted place) g =
+accepts_or_not : (old new : Core) (session : ℕ) (c : Command) (given : Outcome) → AcceptGives old session c given new → Accepts old (record { session = session; command = c }) given new ⊎ Refuses old given new
+accepts_or_not old new session (command.Create c) (outcome.Accepted place) g =
     inl (record { given_is = ap outcome.Accepted g.2; history = ap (λ (x : Core). x.history) g.3; snapshots = ap (λ (x : Core). x.snapshots) g.3 })
-accepts_or_not old new (accept.Create session c) (outcome.Refused guard.TableExists) g = inr (record { guard = guard.TableExists; given_is = refl; new_is = g.1 })
-accepts_or_not old new (accept.Create session c) (outcome.Refused guard.Creates) g = inr (record { guard = guard.Creates; given_is = refl; new_is = g.2 })
-accepts_or_not old new (accept.Insert session i) (outcome.Accepted place) g =
+accepts_or_not old new session (command.Create c) (outcome.Refused guard.TableExists) g = inr (record { guard = guard.TableExists; given_is = refl; new_is = g.1 })
+accepts_or_not old new session (command.Create c) (outcome.Refused guard.Creates) g = inr (record { guard = guard.Creates; given_is = refl; new_is = g.2 })
+accepts_or_not old new session (command.Insert i) (outcome.Accepted place) g =
     inl (record { given_is = ap outcome.Accepted g.place_is; history = g.history; snapshots = g.snapshots })
-accepts_or_not old new (accept.Insert session i) (outcome.Refused guard.NoTable) g = inr (record { guard = guard.NoTable; given_is = refl; new_is = g.1 })
-accepts_or_not old new (accept.Insert session i) (outcome.Refused guard.Numbers) g = inr (record { guard = guard.Numbers; given_is = refl; new_is = g.2 })
-accepts_or_not old new (accept.Create session c) given g = absurd g
-accepts_or_not old new (accept.Insert session i) given g = absurd g
+accepts_or_not old new session (command.Insert i) (outcome.Refused guard.NoTable) g = inr (record { guard = guard.NoTable; given_is = refl; new_is = g.1 })
+accepts_or_not old new session (command.Insert i) (outcome.Refused guard.Numbers) g = inr (record { guard = guard.Numbers; given_is = refl; new_is = g.2 })
+accepts_or_not old new session (command.Create c) given g = absurd g
+accepts_or_not old new session (command.Insert i) given g = absurd g
 
 -- a put leaves the history and the snapshots
 record Stays (old new : Core) : Type 0 where
@@ -59,7 +60,7 @@ record Stays (old new : Core) : Type 0 where
 same_stays : (old new : Core) → new ≡ old → Stays old new
 same_stays old new same = record { history = ap (λ (x : Core). x.history) same; snapshots = ap (λ (x : Core). x.snapshots) same }
 
-put_stays : (old new : Core) (m : Merge) (given : Outcome) → PutGives old m given new → Stays old new
+put_stays : (old new : Core) (m : Put) (given : Outcome) → PutGives old m given new → Stays old new
 put_stays old new m (outcome.Put name) g = record { history = g.history; snapshots = g.snapshots }
 put_stays old new m (outcome.Refused guard.NoTable) g = same_stays old new g.1
 put_stays old new m (outcome.Refused guard.NotNeighbours) g = same_stays old new g.2
@@ -78,23 +79,23 @@ same_longer old new e given none same = record { entries = []; adds = none; hist
 stays_longer : (old new : Core) (e : Event) (given : Outcome) → AddsEntries e given [] → Stays old new → Longer old e given new
 stays_longer old new e given none stays = record { entries = []; adds = none; history = stays.history ∙ sym (append-nil old.history) }
 
-accept_longer : (old new : Core) (a : Accept) (given : Outcome) → Accepts old a given new ⊎ Refuses old given new → Longer old (event.Accept a) given new
-accept_longer old new a given (inl done) = record {
-  entries = entry_of_accept a ∷ [];
-  adds = subst (λ o. AddsEntries (event.Accept a) o (entry_of_accept a ∷ [])) (sym done.given_is) refl;
+accept_longer : (old new : Core) (e : Entry) (given : Outcome) → Accepts old e given new ⊎ Refuses old given new → Longer old (event.Accept e) given new
+accept_longer old new e given (inl done) = record {
+  entries = e ∷ [];
+  adds = subst (λ o. AddsEntries (event.Accept e) o (e ∷ [])) (sym done.given_is) refl;
   history = done.history;
 }
-accept_longer old new a given (inr refused) = same_longer old new (event.Accept a) given (subst (λ o. AddsEntries (event.Accept a) o []) (sym refused.given_is) refl) refused.new_is
+accept_longer old new e given (inr refused) = same_longer old new (event.Accept e) given (subst (λ o. AddsEntries (event.Accept e) o []) (sym refused.given_is) refl) refused.new_is
 
 -- a crash within an accept that was done adds the entry of the accept or none
-done_longer : (old met : Core) (a : Accept) (given : Outcome) → Accepts old a given met ⊎ Refuses old given met → Longer old (event.Crash (crash.Within a true)) outcome.Restarted met
-done_longer old met a given (inl done) = record { entries = entry_of_accept a ∷ []; adds = inl refl; history = done.history }
-done_longer old met a given (inr refused) = same_longer old met (event.Crash (crash.Within a true)) outcome.Restarted (inr refl) refused.new_is
+done_longer : (old met : Core) (e : Entry) (given : Outcome) → Accepts old e given met ⊎ Refuses old given met → Longer old (event.Crash (crash.Within e true)) outcome.Restarted met
+done_longer old met e given (inl done) = record { entries = e ∷ []; adds = inl refl; history = done.history }
+done_longer old met e given (inr refused) = same_longer old met (event.Crash (crash.Within e true)) outcome.Restarted (inr refl) refused.new_is
 
 meets_longer : (old met : Core) (c : Crash) → CrashMeets old c met → Longer old (event.Crash c) outcome.Restarted met
 meets_longer old met crash.Between m = same_longer old met (event.Crash crash.Between) outcome.Restarted refl m
-meets_longer old met (crash.Within a false) m = same_longer old met (event.Crash (crash.Within a false)) outcome.Restarted refl m
-meets_longer old met (crash.Within a true) m = done_longer old met a m.0 (accepts_or_not old met a m.0 m.1)
+meets_longer old met (crash.Within e false) m = same_longer old met (event.Crash (crash.Within e false)) outcome.Restarted refl m
+meets_longer old met (crash.Within e true) m = done_longer old met e m.0 (accepts_or_not old met e.session e.command m.0 m.1)
 meets_longer old met (crash.WithinPut p false) m = same_longer old met (event.Crash (crash.WithinPut p false)) outcome.Restarted refl m
 meets_longer old met (crash.WithinPut p true) m = stays_longer old met (event.Crash (crash.WithinPut p true)) outcome.Restarted refl (put_stays old met p m.0 m.1)
 
@@ -102,8 +103,8 @@ crash_longer : (old met new : Core) (c : Crash) → Longer old (event.Crash c) o
 crash_longer old met new c m same = record { entries = m.entries; adds = m.adds; history = ap (λ (x : Core). x.history) same ∙ m.history }
 
 gives_longer : (old new : Core) (e : Event) (given : Outcome) → GivesOutcome old e given new → Longer old e given new
-gives_longer old new (event.Accept a) given g = accept_longer old new a given (accepts_or_not old new a given g)
-gives_longer old new (event.PutMerge m) given g = stays_longer old new (event.PutMerge m) given refl (put_stays old new m given g)
+gives_longer old new (event.Accept e) given g = accept_longer old new e given (accepts_or_not old new e.session e.command given g)
+gives_longer old new (event.Put m) given g = stays_longer old new (event.Put m) given refl (put_stays old new m given g)
 gives_longer old new (event.TakeSnapshot table) (outcome.Taken number) g = record { entries = []; adds = refl; history = ap (λ (x : Core). x.history) g.2 ∙ sym (append-nil old.history) }
 gives_longer old new (event.TakeSnapshot table) (outcome.Refused guard.NoTable) g = same_longer old new (event.TakeSnapshot table) (outcome.Refused guard.NoTable) refl g.1
 gives_longer old new (event.ReadSnapshot number) (outcome.Rows rows place) g = same_longer old new (event.ReadSnapshot number) (outcome.Rows rows place) refl g.4
@@ -125,13 +126,13 @@ data Holds (old : Core) (e : Event) (given : Outcome) (new : Core) : Type 0 wher
   More : Takes old e given new → Holds old e given new
   Gone : (IsNoCrash e → ⊥) → new.snapshots ≡ [] → Holds old e given new
 
-accept_holds : (old new : Core) (a : Accept) (given : Outcome) → Accepts old a given new ⊎ Refuses old given new → Holds old (event.Accept a) given new
-accept_holds old new a given (inl done) = Stay tt done.snapshots
-accept_holds old new a given (inr refused) = Stay tt (ap (λ (x : Core). x.snapshots) refused.new_is)
+accept_holds : (old new : Core) (e : Entry) (given : Outcome) → Accepts old e given new ⊎ Refuses old given new → Holds old (event.Accept e) given new
+accept_holds old new e given (inl done) = Stay tt done.snapshots
+accept_holds old new e given (inr refused) = Stay tt (ap (λ (x : Core). x.snapshots) refused.new_is)
 
 gives_holds : (old new : Core) (e : Event) (given : Outcome) → GivesOutcome old e given new → Holds old e given new
-gives_holds old new (event.Accept a) given g = accept_holds old new a given (accepts_or_not old new a given g)
-gives_holds old new (event.PutMerge m) given g = Stay tt (put_stays old new m given g).snapshots
+gives_holds old new (event.Accept e) given g = accept_holds old new e given (accepts_or_not old new e.session e.command given g)
+gives_holds old new (event.Put m) given g = Stay tt (put_stays old new m given g).snapshots
 gives_holds old new (event.TakeSnapshot table) (outcome.Taken number) g =
     More (record { table = table; event_is = refl; given_is = ap outcome.Taken g.1; snapshots = ap (λ (x : Core). x.snapshots) g.2 })
 gives_holds old new (event.TakeSnapshot table) (outcome.Refused guard.NoTable) g = Stay tt (ap (λ (x : Core). x.snapshots) g.1)
@@ -207,31 +208,31 @@ run_history (e ∷ es) [] old new r (suc k) = absurd r
 run_history (e ∷ es) (o ∷ os) old new r (suc k) = let later = run_history es os r.0 new r.2 k in (later.0, (r.0, r.1, later.1), later.2, later.3)
 
 -- the entry that an accept added is there to the end
-entry_stays : (old mid new : Core) (a : Accept) (given : Outcome) (place : ℕ) → Accepts old a given mid ⊎ Refuses old given mid → given ≡ outcome.Accepted place → IsFrontOf mid.history new.history
-    → (1 ≤ place) × (slice_get new.history (place - 1) ≡ Some (entry_of_accept a))
-entry_stays old mid new a given place (inl done) told front =
+entry_stays : (old mid new : Core) (e : Entry) (given : Outcome) (place : ℕ) → Accepts old e given mid ⊎ Refuses old given mid → given ≡ outcome.Accepted place → IsFrontOf mid.history new.history
+    → (1 ≤ place) × (slice_get new.history (place - 1) ≡ Some (e))
+entry_stays old mid new e given place (inl done) told front =
     let both : outcome.Accepted place ≡ outcome.Accepted (length old.history + 1) = sym told ∙ done.given_is in
     let place_is : place ≡ length old.history + 1 = cc in
     let back : place - 1 ≡ length old.history = omega (arith, place_is) in
-    let count = length-append old.history (entry_of_accept a ∷ []) in (
+    let count = length-append old.history (e ∷ []) in (
       omega (arith, place_is),
       ap (slice_get new.history) back
           ∙ (ap (λ (h : History). slice_get h (length old.history)) (front.1 ∙ ap (λ (h : History). h ++ front.0) done.history)
-          ∙ (slice_left (old.history ++ entry_of_accept a ∷ []) front.0 (length old.history) (omega (arith, count)) ∙ slice_last old.history (entry_of_accept a))),
+          ∙ (slice_left (old.history ++ e ∷ []) front.0 (length old.history) (omega (arith, count)) ∙ slice_last old.history (e))),
     )
-entry_stays old mid new a given place (inr refused) told front =
+entry_stays old mid new e given place (inr refused) told front =
     let both : outcome.Accepted place ≡ outcome.Refused refused.guard = sym told ∙ refused.given_is in
     cc
 
 pub run_accepted : (events : List Event) (outcomes : List Outcome) (old new : Core) → Runs old events outcomes new → KeepsAccepted events outcomes new
-run_accepted [] os old new r k place a at given = cc
-run_accepted (e ∷ es) [] old new r k place a at given = absurd r
-run_accepted (e ∷ es) (o ∷ os) old new r zero place a at given =
-    let event_is : e ≡ event.Accept a = cc in
+run_accepted [] os old new r k place e at given = cc
+run_accepted (x ∷ xs) [] old new r k place e at given = absurd r
+run_accepted (x ∷ xs) (o ∷ os) old new r zero place e at given =
+    let event_is : x ≡ event.Accept e = cc in
     let told : o ≡ outcome.Accepted place = cc in
-    let gives : AcceptGives old a o r.0 = subst (λ x. GivesOutcome old x o r.0) event_is r.1 in
-    entry_stays old r.0 new a o place (accepts_or_not old r.0 a o gives) told (run_front es os r.0 new r.2)
-run_accepted (e ∷ es) (o ∷ os) old new r (suc k) place a at given = run_accepted es os r.0 new r.2 k place a at given
+    let gives : AcceptGives old e.session e.command o r.0 = subst (λ y. GivesOutcome old y o r.0) event_is r.1 in
+    entry_stays old r.0 new e o place (accepts_or_not old r.0 e.session e.command o gives) told (run_front xs os r.0 new r.2)
+run_accepted (x ∷ xs) (o ∷ os) old new r (suc k) place e at given = run_accepted xs os r.0 new r.2 k place e at given
 
 -- ---- the snapshots
 
@@ -354,7 +355,7 @@ reads_rows old new number place rows is g =
 pub gives_reads : (old new : Core) (e : Event) (given : Outcome) → IsCore old → GivesOutcome old e given new → ReadsLeft new e given
 gives_reads old new (event.ReadSnapshot number) (outcome.Rows rows place) is g = reads_rows old new number place rows is g
 gives_reads old new (event.ReadSnapshot number) given is g = tt
-gives_reads old new (event.Accept a) given is g = tt
-gives_reads old new (event.PutMerge m) given is g = tt
+gives_reads old new (event.Accept e) given is g = tt
+gives_reads old new (event.Put m) given is g = tt
 gives_reads old new (event.TakeSnapshot table) given is g = tt
 gives_reads old new (event.Crash c) given is g = tt

@@ -1,12 +1,9 @@
 -- Runs of events (docs/definitions.md, "The core").
 use Rattle.std.specs.Prelude.{◌≡◌, ◌⊎◌, ◌-◌, ◌≤◌, ℕ, true, List, [], ◌∷◌, ◌++◌, Some, drop, slice_get, take}
 use Rattle.std.specs.List.{AllByRecursion}
-use Rattle.mt_values.specs.declared.command.Command.TheVariants as command
 use Rattle.mt_values.specs.declared.command.Entry.{Entry}
 use Rattle.mt_values.specs.Values.{Row}
 use Rattle.part_history.specs.mt_model.History.{History}
-use Rattle.table_core.specs.declared.event.Accept.{Accept}
-use Rattle.table_core.specs.declared.event.Accept.TheVariants as accept
 use Rattle.table_core.specs.declared.event.Crash.TheVariants as crash
 use Rattle.table_core.specs.declared.event.Event.{Event}
 use Rattle.table_core.specs.declared.event.Event.TheVariants as event
@@ -86,21 +83,16 @@ abbrev pub KeepsHistory : Core → List Event → List Outcome → Core → Type
 KeepsHistory old events outcomes new =
     (k : ℕ) → (met : Core) × Runs old (take k events) (take k outcomes) met × Runs met (drop k events) (drop k outcomes) new × IsFrontOf met.history new.history
 
--- the entry of an accept (docs/definitions.md, "The core")
-abbrev pub entry_of_accept : Accept → Entry
-entry_of_accept (accept.Create session c) = record { session = session; command = command.Create c }
-entry_of_accept (accept.Insert session i) = record { session = session; command = command.Insert i }
-
 -- the entry of each accept that was accepted is in the history, at the place that was told (docs/definitions.md, "The core")
 abbrev pub KeepsAccepted : List Event → List Outcome → Core → Type 0
 KeepsAccepted events outcomes new =
-    (k place : ℕ) (a : Accept) → slice_get events k ≡ Some (event.Accept a) → slice_get outcomes k ≡ Some (outcome.Accepted place)
-    → (1 ≤ place) × (slice_get new.history (place - 1) ≡ Some (entry_of_accept a))
+    (k place : ℕ) (e : Entry) → slice_get events k ≡ Some (event.Accept e) → slice_get outcomes k ≡ Some (outcome.Accepted place)
+    → (1 ≤ place) × (slice_get new.history (place - 1) ≡ Some e)
 
 -- the entries that an event may add: an accept that was accepted its own, a crash within an accept that was done the entry of the accept or none, all others none (docs/definitions.md, "The core")
 abbrev pub AddsEntries : Event → Outcome → History → Type 0
-AddsEntries (event.Accept a) (outcome.Accepted place) entries = entries ≡ entry_of_accept a ∷ []
-AddsEntries (event.Crash (crash.Within a true)) given entries = (entries ≡ entry_of_accept a ∷ []) ⊎ (entries ≡ [])
+AddsEntries (event.Accept e) (outcome.Accepted place) entries = entries ≡ e ∷ []
+AddsEntries (event.Crash (crash.Within e true)) given entries = (entries ≡ e ∷ []) ⊎ (entries ≡ [])
 AddsEntries e given entries = entries ≡ []
 
 -- the entries that events add, one after another (docs/definitions.md, "The core")

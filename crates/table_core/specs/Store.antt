@@ -13,7 +13,7 @@ use Rattle.part_history.specs.mt_model.History.{History, schema_of}
 use Rattle.part_history.specs.declared.part.CorePart.{CorePart}
 use Rattle.part_history.specs.Entered.{with_part}
 use Rattle.part_history.specs.Parts.{partition_cmp}
-use Rattle.table_core.specs.declared.event.Merge.{Merge}
+use Rattle.table_core.specs.declared.event.Sources.{Sources}
 use Rattle.table_core.specs.declared.store.Run.{Run}
 use Rattle.table_core.specs.declared.store.Store.{Store}
 use Rattle.table_core.specs.declared.store.Table.{Table}
@@ -81,14 +81,14 @@ grown_table table part number = record { schema = table.schema; parts = with_par
 abbrev pub parts_below : Partition → List CorePart → List CorePart
 parts_below partition parts = filter (λ (p : CorePart). is_gt (partition_cmp partition p.name.partition)) parts
 
--- where the sources of a merge stand among the parts of its table
-pub record RunStands (parts : List CorePart) (m : Merge) (run : Run) : Type 0 where
-  pub there : HasNeighbours parts m
+-- where sources stand among the parts of their table
+pub record RunStands (parts : List CorePart) (s : Sources) (run : Run) : Type 0 where
+  pub there : HasNeighbours parts s
   pub front : List CorePart
   pub back : List CorePart
-  pub parts_are : parts ≡ front ++ (sources_among parts m ++ back)
+  pub parts_are : parts ≡ front ++ (sources_among parts s ++ back)
   pub from_is : run.from ≡ length front
-  pub count_is : run.count ≡ m.count
+  pub count_is : run.count ≡ s.count
 
 -- a run is of parts of the list, at least one
 pub record LiesIn (run : Run) (parts : List CorePart) : Type 0 where

@@ -1,26 +1,23 @@
 // What may happen to the core, and what it answers.
 use mt_base::{Partition, Seq};
-use mt_values::{Create, Insert, Name, Row};
+use mt_values::{Entry, Name, Row};
 use part_history::part_name::PartName;
 
-/// A command that a session gives: it is accepted, or refused.
+/// Neighbours in a partition of a table, which something is to be put in place of.
 #[derive(Drop)]
-pub enum Accept {
-    /// A session gives a CREATE.
-    Create { session: u64, create: Create },
-    /// A session gives an INSERT.
-    Insert { session: u64, insert: Insert },
-}
-
-/// A merge of neighbours, done beside the state: the rows that it left are to be put in their place.
-#[derive(Drop)]
-pub struct Merge {
+pub struct Sources {
     pub table: Name,
     pub partition: Partition,
     /// The place of the first of them among the parts of the partition in block order, from 0.
     pub first: usize,
     /// How many they are.
     pub count: usize,
+}
+
+/// What a merge of neighbours left, done beside the state: its rows are to be put in their place.
+#[derive(Drop)]
+pub struct Put {
+    pub sources: Sources,
     pub rows: Seq<Row>,
 }
 
@@ -29,19 +26,19 @@ pub struct Merge {
 pub enum Crash {
     /// Between two events.
     Between,
-    /// Within an accept, which is then done as a whole, or not at all.
-    Within { accept: Accept, done: bool },
-    /// Within the putting of a merge, which is then done as a whole, or not at all.
-    WithinPut { merge: Merge, done: bool },
+    /// Within the accept of a command of a session, which is then done as a whole, or not at all.
+    Within { entry: Entry, done: bool },
+    /// Within a put, which is then done as a whole, or not at all.
+    WithinPut { put: Put, done: bool },
 }
 
 /// What may happen.
 #[derive(Drop)]
 pub enum Event {
-    /// A command is accepted, or refused.
-    Accept(Accept),
-    /// What a merge left is put in place of its sources, or that is refused.
-    PutMerge(Merge),
+    /// A command of a session is accepted, or refused.
+    Accept(Entry),
+    /// What was done with neighbours is put in their place, or that is refused.
+    Put(Put),
     /// A snapshot of a table is taken.
     TakeSnapshot { table: Name },
     /// The snapshot with this number, from 0, is read.

@@ -10,7 +10,7 @@ mod state;
 mod steps;
 mod store;
 
-pub use event::{Accept, Crash, Event, Guard, Merge, Outcome};
+pub use event::{Crash, Event, Guard, Outcome, Put, Sources};
 pub use laws::{what_was_accepted_stays, what_was_read_stays};
 pub use part_history;
 pub use part_history::{CorePart, mt_model, part_name, predicate};

@@ -15,9 +15,9 @@ ghost use Rattle.table_core.specs.Steps.{AcceptGives, CrashGives, CrashMeets, Cr
 ghost use Rattle.table_core.specs.Store.{IsStore, core_of};
 
 use crate::store::{Store, parts_of_run, run_of};
-use crate::{Accept, CorePart, Crash, Event, Guard, Merge, Outcome, Snapshot};
+use crate::{CorePart, Crash, Event, Guard, Outcome, Put, Snapshot, Sources};
 use mt_base::{NoMemory, ROOT_TABLE_LIMIT, Seq, Twin};
-use mt_values::{Block, Create, Insert, Name, Row, Schema};
+use mt_values::{Block, Command, Create, Entry, Insert, Name, Row, Schema};
 use part_history::part_name::{PartName, join, raise};
 use std::alloc::Global;
 
@@ -33,26 +33,27 @@ pub fn happen(alloc: Global, store: &mut Store, event: Event) -> Result<Outcome,
     ensures store { IsStore store.new }
 {
     match event {
-        Event::Accept(accept) => decide(alloc, store, accept),
-        Event::PutMerge(merge) => Ok(put_merge(alloc, store, merge)),
+        Event::Accept(entry) => decide(alloc, store, entry),
+        Event::Put(put) => Ok(put_merge(alloc, store, put)),
         Event::TakeSnapshot { table } => take_snapshot(alloc, store, table),
         Event::ReadSnapshot { number } => read_snapshot(alloc, store, number),
         Event::Crash(crash) => restart(alloc, store, crash),
     }
 }
 
-/// Accepts a command, or refuses it.
-fn decide(alloc: Global, store: &mut Store, accept: Accept) -> Result<Outcome, NoMemory>
+/// Accepts a command of a session, or refuses it.
+fn decide(alloc: Global, store: &mut Store, entry: Entry) -> Result<Outcome, NoMemory>
     requires store { IsStore store.old }
-    requires may { MayAccept store.old.entries.items accept }
-    ensures gives { IfOk result
-        (λ given. AcceptGives (core_of store.old) accept given (core_of store.new)) }
+    requires may { MayAccept store.old.entries.items entry.command }
+    ensures gives { IfOk result (λ given. AcceptGives (core_of store.old) entry.session entry.command
+        given (core_of store.new)) }
     ensures err { OnErr result (core_of store.new ≡ core_of store.old) }
     ensures store { IsStore store.new }
 {
-    match accept {
-        Accept::Create { session, create } => make_table(alloc, store, session, create),
-        Accept::Insert { session, insert } => add_rows(alloc, store, session, insert),
+    let Entry { session, command } = entry;
+    match command {
+        Command::Create(create) => make_table(alloc, store, session, create),
+        Command::Insert(insert) => add_rows(alloc, store, session, insert),
     }
 }
 
@@ -79,12 +80,12 @@ fn meet_crash(alloc: Global, store: &mut Store, crash: Crash) -> Result<(), NoMe
     ensures store { IsStore store.new }
 {
     match crash {
-        Crash::Within { accept, done: true } => {
-            decide(alloc, store, accept)?;
+        Crash::Within { entry, done: true } => {
+            decide(alloc, store, entry)?;
             Ok(())
         }
-        Crash::WithinPut { merge, done: true } => {
-            put_merge(alloc, store, merge);
+        Crash::WithinPut { put, done: true } => {
+            put_merge(alloc, store, put);
             Ok(())
         }
         _ => Ok(()),
@@ -182,23 +183,24 @@ fn rows_at(alloc: Global, block: &Block, places: &[u32]) -> Result<Seq<Row>, NoM
 
 /// Puts what a merge left in place of its sources, unless there is no such table, there are no such neighbours, or the part
 /// would have too great a level. Takes no memory.
-fn put_merge(alloc: Global, store: &mut Store, merge: Merge) -> Outcome
+fn put_merge(alloc: Global, store: &mut Store, put: Put) -> Outcome
     requires store { IsStore store.old }
-    requires may { MayPut (core_of store.old) merge }
-    ensures gives { PutGives (core_of store.old) merge result (core_of store.new) }
+    requires may { MayPut (core_of store.old) put }
+    ensures gives { PutGives (core_of store.old) put result (core_of store.new) }
     ensures store { IsStore store.new }
 {
-    let Some(place) = store.find(&merge.table) else {
+    let Put { sources, rows } = put;
+    let Some(place) = store.find(&sources.table) else {
         return Outcome::Refused(Guard::NoTable);
     };
     let parts = store.tables[place].parts.as_slice();
-    let Some(run) = run_of(parts, &merge) else {
+    let Some(run) = run_of(parts, &sources) else {
         return Outcome::Refused(Guard::NotNeighbours);
     };
     let Some(name) = merged_name(parts_of_run(parts, run)) else {
         return Outcome::Refused(Guard::Levels);
     };
-    let Merge { table, rows, .. } = merge;
+    let Sources { table, .. } = sources;
     let part = CorePart { table, name, rows };
     store.swap_run(alloc, place, run, part);
     Outcome::Put { name }

@@ -10,7 +10,7 @@ ghost use Rattle.part_history.specs.Parts.{AreInBlockOrder, core_parts_of, parti
 ghost use Rattle.table_core.specs.Steps.{HasNeighbours};
 ghost use Rattle.table_core.specs.Store.{AddsTable, IsNotNamed, IsStore, LiesIn, Named, RunStands, SameTables, StandsAt, core_of, grown_table, parts_below, parts_of_tables, swapped_table};
 
-use crate::{CorePart, Merge, Snapshot};
+use crate::{CorePart, Snapshot, Sources};
 use indexmap::IndexMap;
 use mt_base::{NoMemory, Partition, Seq, Twin};
 use mt_values::{Command, Create, Entry, Insert, Name, Schema};
@@ -221,29 +221,28 @@ pub fn parts_of_run(parts: &[CorePart], run: Run) -> &[CorePart]
     &parts[run.from..][..run.count]
 }
 
-/// Where the sources of a merge stand in the list of its table's parts; none where its partition does not have them, or they
-/// are none.
-pub fn run_of(parts: &[CorePart], merge: &Merge) -> Option<Run>
+/// Where neighbours stand in the list of their table's parts; none where their partition does not have them, or they are none.
+pub fn run_of(parts: &[CorePart], sources: &Sources) -> Option<Run>
     requires { AreInBlockOrder parts.now }
-    ensures there { IfSome result (RunStands parts.now merge.now) }
-    ensures none { IfNone result (HasNeighbours parts.now merge.now → ⊥) }
+    ensures there { IfSome result (RunStands parts.now sources.now) }
+    ensures none { IfNone result (HasNeighbours parts.now sources.now → ⊥) }
 {
-    let all = run_of_partition(parts, merge.partition);
-    if !has_neighbours(all.count, merge) {
+    let all = run_of_partition(parts, sources.partition);
+    if !has_neighbours(all.count, sources) {
         return None;
     }
     Some(Run {
-        from: all.from + merge.first,
-        count: merge.count,
+        from: all.from + sources.first,
+        count: sources.count,
     })
 }
 
-/// Whether a merge is of at least one of a partition's parts, and of no more than there are.
-fn has_neighbours(count: usize, merge: &Merge) -> bool
+/// Whether there is at least one of them among a partition's parts, and no more than there are.
+fn has_neighbours(count: usize, sources: &Sources) -> bool
     ensures { IsTrue result
-        ↔ (0 < merge.now.count) × (merge.now.first + merge.now.count ≤ count) }
+        ↔ (0 < sources.now.count) × (sources.now.first + sources.now.count ≤ count) }
 {
-    0 < merge.count && merge.first <= count && merge.count <= count - merge.first
+    0 < sources.count && sources.first <= count && sources.count <= count - sources.first
 }
 
 /// Where the parts of a partition stand.

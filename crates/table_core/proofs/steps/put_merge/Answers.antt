@@ -1,5 +1,4 @@
-use Rattle.std.proofs.Common.{◌≡◌, ◌<◌, List, Some, refl, sym, ap, ◌∙◌, subst}
-use Rattle.part_history.specs.part_name.declared.part.PartName.{PartName}
+use Rattle.std.proofs.Common.{List, refl, sym, ap, ◌∙◌, subst}
 use Rattle.part_history.specs.part_name.Merged.{merged_of}
 use Rattle.part_history.specs.declared.part.CorePart.{CorePart}
 use Rattle.part_history.specs.Merges.{names_of}
@@ -13,57 +12,57 @@ use Rattle.table_core.proofs.Stored.{one_value}
 use Rattle.table_core.proofs.steps.put_merge.Goals as goal
 
 pub returns-in_default-clause-gives : goal.returns-in_default-clause-gives
-returns-in_default-clause-gives c = (no_table c.args.store.now c.requires.store c.args.merge.table c.in_default.ensures.none, refl)
+returns-in_default-clause-gives c = (no_table c.args.store.now c.requires.store c.args.put.sources.table c.in_default.ensures.none, refl)
 
 pub run_of-requires : goal.run_of-requires
 run_of-requires c =
     let here = c.in-Some.ensures.there in
-    let are = c.as_slice-parts.ensures ∙ ap (λ (t : Table). t.parts) (read_here c.args.store.now c.requires.store c.args.merge.table c.in-Some.place here c.index.result.now c.index.ensures) in
-    subst AreInBlockOrder (sym are) (order_here c.args.store.now c.requires.store c.args.merge.table c.in-Some.place here)
+    let are = c.as_slice-parts.ensures ∙ ap (λ (t : Table). t.parts) (read_here c.args.store.now c.requires.store c.args.put.sources.table c.in-Some.place here c.index.result.now c.index.ensures) in
+    subst AreInBlockOrder (sym are) (order_here c.args.store.now c.requires.store c.args.put.sources.table c.in-Some.place here)
 
 pub returns-in_default-run_of-clause-gives : goal.returns-in_default-run_of-clause-gives
 returns-in_default-run_of-clause-gives c =
     let here = c.in-Some.ensures.there in
-    let are = c.as_slice-parts.ensures ∙ ap (λ (t : Table). t.parts) (read_here c.args.store.now c.requires.store c.args.merge.table c.in-Some.place here c.index.result.now c.index.ensures) in
-    put_unfound c.args.store.now c.args.merge c.in-Some.place c.requires.store here (λ has. c.in_default-run_of.ensures.none (subst (λ (ps : List CorePart). HasNeighbours ps c.args.merge) (sym are) has))
+    let are = c.as_slice-parts.ensures ∙ ap (λ (t : Table). t.parts) (read_here c.args.store.now c.requires.store c.args.put.sources.table c.in-Some.place here c.index.result.now c.index.ensures) in
+    put_unfound c.args.store.now c.args.put c.in-Some.place c.requires.store here (λ has. c.in_default-run_of.ensures.none (subst (λ (ps : List CorePart). HasNeighbours ps c.args.put.sources) (sym are) has))
 
 pub parts_of_run-requires : goal.parts_of_run-requires
-parts_of_run-requires c = (run_lies c.as_slice-parts.result.now c.args.merge c.in-Some-run_of.run' c.in-Some-run_of.ensures.there).within
+parts_of_run-requires c = (run_lies c.as_slice-parts.result.now c.args.put.sources c.in-Some-run_of.run' c.in-Some-run_of.ensures.there).within
 
 pub returns-in_default-merged_name-clause-gives : goal.returns-in_default-merged_name-clause-gives
 returns-in_default-merged_name-clause-gives c =
     let here = c.in-Some.ensures.there in
-    let are = c.as_slice-parts.ensures ∙ ap (λ (t : Table). t.parts) (read_here c.args.store.now c.requires.store c.args.merge.table c.in-Some.place here c.index.result.now c.index.ensures) in
+    let are = c.as_slice-parts.ensures ∙ ap (λ (t : Table). t.parts) (read_here c.args.store.now c.requires.store c.args.put.sources.table c.in-Some.place here c.index.result.now c.index.ensures) in
     let at = c.in-Some-run_of.ensures.there in
-    let sources = c.parts_of_run.ensures ∙ (run_is c.as_slice-parts.result.now c.args.merge c.in-Some-run_of.run' at ∙ ap (λ (ps : List CorePart). sources_among ps c.args.merge) are) in
-    put_unleveled c.args.store.now c.args.merge c.in-Some.place c.requires.store here c.in-Some-run_of.run' (subst (λ (ps : List CorePart). RunStands ps c.args.merge c.in-Some-run_of.run') are at)
+    let sources = c.parts_of_run.ensures ∙ (run_is c.as_slice-parts.result.now c.args.put.sources c.in-Some-run_of.run' at ∙ ap (λ (ps : List CorePart). sources_among ps c.args.put.sources) are) in
+    put_unleveled c.args.store.now c.args.put c.in-Some.place c.requires.store here c.in-Some-run_of.run' (subst (λ (ps : List CorePart). RunStands ps c.args.put.sources c.in-Some-run_of.run') are at)
     (λ name named. c.in_default-merged_name.ensures.none name (ap (λ (ps : List CorePart). merged_of (names_of ps)) sources ∙ named))
 
 pub returns-clause-gives : goal.returns-clause-gives
 returns-clause-gives c =
     let here = c.in-Some.ensures.there in
-    let are = c.as_slice-parts.ensures ∙ ap (λ (t : Table). t.parts) (read_here c.args.store.now c.requires.store c.args.merge.table c.in-Some.place here c.index.result.now c.index.ensures) in
+    let are = c.as_slice-parts.ensures ∙ ap (λ (t : Table). t.parts) (read_here c.args.store.now c.requires.store c.args.put.sources.table c.in-Some.place here c.index.result.now c.index.ensures) in
     let at = c.in-Some-run_of.ensures.there in
-    let sources = c.parts_of_run.ensures ∙ (run_is c.as_slice-parts.result.now c.args.merge c.in-Some-run_of.run' at ∙ ap (λ (ps : List CorePart). sources_among ps c.args.merge) are) in
+    let sources = c.parts_of_run.ensures ∙ (run_is c.as_slice-parts.result.now c.args.put.sources c.in-Some-run_of.run' at ∙ ap (λ (ps : List CorePart). sources_among ps c.args.put.sources) are) in
     let named = c.in-Some-merged_name.ensures.named in
-    put_done c.args.store.now c.swap_run.new.self c.args.merge c.in-Some-merged_name.name c.in-Some.place c.in-Some-run_of.run' c.requires.store here
-    (subst (λ (ps : List CorePart). RunStands ps c.args.merge c.in-Some-run_of.run') are at) (sym (ap (λ (ps : List CorePart). merged_of (names_of ps)) sources) ∙ named.0) named.1
-    (c.swap_run.ensures.tables here.here (place_here c.args.store.now c.requires.store c.args.merge.table c.in-Some.place here)) c.swap_run.ensures.entries c.swap_run.ensures.snapshots
+    put_done c.args.store.now c.swap_run.new.self c.args.put c.in-Some-merged_name.name c.in-Some.place c.in-Some-run_of.run' c.requires.store here
+    (subst (λ (ps : List CorePart). RunStands ps c.args.put.sources c.in-Some-run_of.run') are at) (sym (ap (λ (ps : List CorePart). merged_of (names_of ps)) sources) ∙ named.0) named.1
+    (c.swap_run.ensures.tables here.here (place_here c.args.store.now c.requires.store c.args.put.sources.table c.in-Some.place here)) c.swap_run.ensures.entries c.swap_run.ensures.snapshots
 
 pub swap_run-requires-clause-run : goal.swap_run-requires-clause-run
 swap_run-requires-clause-run c = λ t at.
     let here = c.in-Some.ensures.there in
-    let are = c.as_slice-parts.ensures ∙ ap (λ (u : Table). u.parts) (read_here c.args.store.now c.requires.store c.args.merge.table c.in-Some.place here c.index.result.now c.index.ensures) in
-    let same = one_value _ here.here t (place_here c.args.store.now c.requires.store c.args.merge.table c.in-Some.place here) at in
-    run_lies t.1.parts c.args.merge c.in-Some-run_of.run' (subst (λ (ps : List CorePart). RunStands ps c.args.merge c.in-Some-run_of.run') (are ∙ ap (λ (x : Named). x.1.parts) same) c.in-Some-run_of.ensures.there)
+    let are = c.as_slice-parts.ensures ∙ ap (λ (u : Table). u.parts) (read_here c.args.store.now c.requires.store c.args.put.sources.table c.in-Some.place here c.index.result.now c.index.ensures) in
+    let same = one_value _ here.here t (place_here c.args.store.now c.requires.store c.args.put.sources.table c.in-Some.place here) at in
+    run_lies t.1.parts c.args.put.sources c.in-Some-run_of.run' (subst (λ (ps : List CorePart). RunStands ps c.args.put.sources c.in-Some-run_of.run') (are ∙ ap (λ (x : Named). x.1.parts) same) c.in-Some-run_of.ensures.there)
 
 pub returns-clause-store : goal.returns-clause-store
 returns-clause-store c =
     let here = c.in-Some.ensures.there in
-    let are = c.as_slice-parts.ensures ∙ ap (λ (t : Table). t.parts) (read_here c.args.store.now c.requires.store c.args.merge.table c.in-Some.place here c.index.result.now c.index.ensures) in
+    let are = c.as_slice-parts.ensures ∙ ap (λ (t : Table). t.parts) (read_here c.args.store.now c.requires.store c.args.put.sources.table c.in-Some.place here c.index.result.now c.index.ensures) in
     let at = c.in-Some-run_of.ensures.there in
-    let sources = c.parts_of_run.ensures ∙ (run_is c.as_slice-parts.result.now c.args.merge c.in-Some-run_of.run' at ∙ ap (λ (ps : List CorePart). sources_among ps c.args.merge) are) in
+    let sources = c.parts_of_run.ensures ∙ (run_is c.as_slice-parts.result.now c.args.put.sources c.in-Some-run_of.run' at ∙ ap (λ (ps : List CorePart). sources_among ps c.args.put.sources) are) in
     let named = c.in-Some-merged_name.ensures.named in
-    put_store c.args.store.now c.swap_run.new.self c.args.merge c.in-Some-merged_name.name c.in-Some.place c.in-Some-run_of.run' c.requires.store here
-    (subst (λ (ps : List CorePart). RunStands ps c.args.merge c.in-Some-run_of.run') are at) (sym (ap (λ (ps : List CorePart). merged_of (names_of ps)) sources) ∙ named.0) named.1
-    (c.swap_run.ensures.tables here.here (place_here c.args.store.now c.requires.store c.args.merge.table c.in-Some.place here)) c.swap_run.ensures.entries c.swap_run.ensures.snapshots c.requires.may
+    put_store c.args.store.now c.swap_run.new.self c.args.put c.in-Some-merged_name.name c.in-Some.place c.in-Some-run_of.run' c.requires.store here
+    (subst (λ (ps : List CorePart). RunStands ps c.args.put.sources c.in-Some-run_of.run') are at) (sym (ap (λ (ps : List CorePart). merged_of (names_of ps)) sources) ∙ named.0) named.1
+    (c.swap_run.ensures.tables here.here (place_here c.args.store.now c.requires.store c.args.put.sources.table c.in-Some.place here)) c.swap_run.ensures.entries c.swap_run.ensures.snapshots c.requires.may

@@ -1,4 +1,4 @@
-use Rattle.std.proofs.Common.{◌≤◌, ◌+◌, refl, ap, arith}
+use Rattle.std.proofs.Common.{◌+◌, refl, ap, arith}
 use Rattle.table_core.proofs.Neighbours.{sources_stand}
 use Rattle.table_core.proofs.store.run_of.Goals as goal
 
@@ -15,5 +15,5 @@ returns-clause-there c =
     let has = c.has_neighbours.ensures.0 c.if-not-has_neighbours.false in
     let count = all.count in
     let within = has.1 in
-    sources_stand c.args.parts.now c.args.merge.now (record { from = c.run_of_partition-all.result.from + c.args.merge.now.first; count = c.args.merge.now.count }) c.requires
-    (record { some = has.0; within = omega (arith, within, count) }) (ap (λ n. n + c.args.merge.now.first) all.from) refl
+    sources_stand c.args.parts.now c.args.sources.now (record { from = c.run_of_partition-all.result.from + c.args.sources.now.first; count = c.args.sources.now.count }) c.requires
+    (record { some = has.0; within = omega (arith, within, count) }) (ap (λ n. n + c.args.sources.now.first) all.from) refl
