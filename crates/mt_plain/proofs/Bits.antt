@@ -1,5 +1,5 @@
 -- Numbers joined bit by bit, by halves.
-use Rattle.std.proofs.Common.{◌≡◌, ℕ, ◌+◌, ◌*◌, ◌/◌, ◌%◌, ◌<◌, ◌≤◌, ◌^◌, ◌∙◌, sym, ap₂, arith}
+use Rattle.std.proofs.Common.{◌≡◌, ℕ, ◌+◌, ◌*◌, ◌/◌, ◌%◌, ◌<◌, ◌^◌, ◌∙◌, sym, ap₂, arith}
 use Rattle.std.specs.Prelude.{bit_and, bit_or, bit_xor}
 use Rattle.std.proofs.lemmas.Nat.{and_block, and_le_l, or_block, or_lt, shr_split, xor_block, xor_lt}
 use Rattle.mt_values.specs.declared.engine.Aggregate.{Aggregate}

@@ -1,9 +1,8 @@
 -- The portions of single INSERTs stand for the table.
 use Rattle.std.proofs.Common.{◌≡◌, ℕ, ◌+◌, ◌-◌, Bool, true, false, cond, List, [], ◌∷◌, ◌++◌, Some, None, length, map, slice_get, refl, sym, ap, ap₂, subst, ◌∙◌, append-nil, append_assoc, length-append}
-use Rattle.std.specs.List.{AllByRecursion, count_by}
-use Rattle.std.specs.List.Sorted.{IsSorted}
+use Rattle.std.specs.List.{All, AllByRecursion, count_by}
 use Rattle.std.proofs.lemmas.List.{map-append}
-use Rattle.std.proofs.lemmas.List.Elements.{All-from_recursion, All-nil, recursion_from_All}
+use Rattle.std.proofs.lemmas.List.Elements.{All-from_recursion, All-nil, All-push, recursion_from_All}
 use Rattle.std.proofs.lemmas.List.Sums.{sum_by-cons}
 use Rattle.mt_base.specs.declared.partition.Partition.{Partition}
 use Rattle.mt_values.specs.declared.command.Command.{Command}
@@ -13,16 +12,16 @@ use Rattle.mt_values.specs.declared.command.Insert.{Insert}
 use Rattle.mt_values.specs.declared.schema.Schema.{Schema}
 use Rattle.mt_values.specs.Grammar.{same_bytes}
 use Rattle.mt_values.specs.Tables.{sorting_cmp}
-use Rattle.part_history.specs.mt_model.Explain.{Portion, PortionStands, PortionsStand, has_number}
+use Rattle.part_history.specs.mt_model.Explain.{Portion, PortionStands, PortionsStand, has_number, reach_of_portion}
 use Rattle.part_history.specs.mt_model.History.{History, first_of, schema_of}
-use Rattle.part_history.specs.mt_model.Live.{live, sorted}
-use Rattle.part_history.specs.mt_model.Partial.{Partly}
-use Rattle.part_history.specs.mt_model.Numbers.{IsNumberOfInsert, draws, numbered, within}
+use Rattle.part_history.specs.mt_model.Live.{sorted}
+use Rattle.part_history.specs.mt_model.Numbers.{IsNumberOfInsert, Reach, draws, numbered}
+use Rattle.part_history.specs.mt_model.Reaches.{ReachStands}
 use Rattle.part_history.proofs.MtModelHistories.{numbered_more}
 use Rattle.part_history.proofs.MtModelTables.{itself_same, same_is}
 use Rattle.part_history.specs.declared.part.CorePart.{CorePart}
 use Rattle.part_history.specs.Entered.{part_of_insert}
-use Rattle.part_history.specs.Parts.{PartStands, TableStands, has_block}
+use Rattle.part_history.specs.Parts.{PartStands, TableStands, has_block, reach_of_part}
 use Rattle.part_history.proofs.Growing.{table_grown, table_kept}
 use Rattle.mt_plain.specs.Portions.{portion_of, portions_after, portions_from, unmerged}
 
@@ -53,23 +52,30 @@ module _ (table : List ℕ) (schema : Schema) where
   one_schema : (a : Schema) → Some a ≡ Some schema → a ≡ schema
   one_schema a same = cc
 
-  portion_stands : (h : History) (p : Portion) → PartStands (made h) (as_part p) → PortionStands h table schema p
-  portion_stands h p s =
-      let same : s.schema ≡ schema = one_schema s.schema (sym s.there ∙ made_schema h) in
-      by s.schema same s.rising s.partly
-    where
-      by : (a : Schema) → a ≡ schema → IsSorted (sorting_cmp a) p.rows → Partly a (live table a (within table p.partition p.least p.greatest h)) p.rows → PortionStands h table schema p
-      by a same rising partly = record {
-        order = s.order;
-        first = number_is p.partition p.least h s.least;
-        last = number_is p.partition p.greatest h s.greatest;
-        rising = subst (λ k. IsSorted (sorting_cmp k) p.rows) same rising;
-        partly = subst (λ k. Partly k (live table k (within table p.partition p.least p.greatest h)) p.rows) same partly;
-      }
+  -- no mutation was applied to a portion
+  abbrev Unmutated : Portion → Type 0
+  Unmutated p = p.version ≡ p.least
 
-  each_stands : (h : History) (ps : List Portion) → AllByRecursion (PartStands (made h)) (map as_part ps) → AllByRecursion (PortionStands h table schema) ps
-  each_stands h [] all = tt
-  each_stands h (p ∷ ps) all = (portion_stands h p all.0, each_stands h ps all.1)
+  -- what a portion reaches, with this version
+  abbrev reach_at : Portion → ℕ → Reach
+  reach_at p version = record { table = table; partition = p.partition; least = p.least; greatest = p.greatest; version = version }
+
+  portion_stands : (h : History) (p : Portion) → Unmutated p → PartStands (made h) (as_part p) → PortionStands h table schema p
+  portion_stands h p own s =
+      let same : s.schema ≡ schema = one_schema s.schema (sym s.there ∙ made_schema h) in
+      let is : reach_of_part (as_part p) ≡ reach_of_portion table p = ap (reach_at p) (sym own) in
+      let stands : ReachStands h s.schema (reach_of_part (as_part p)) p.rows = record {
+        order = s.stands.order;
+        least = number_is p.partition p.least h s.stands.least;
+        greatest = number_is p.partition p.greatest h s.stands.greatest;
+        rising = s.stands.rising;
+        partly = s.stands.partly;
+      } in
+      subst (λ (r : Reach). ReachStands h schema r p.rows) is (subst (λ (k : Schema). ReachStands h k (reach_of_part (as_part p)) p.rows) same stands)
+
+  each_stands : (h : History) (ps : List Portion) → AllByRecursion Unmutated ps → AllByRecursion (PartStands (made h)) (map as_part ps) → AllByRecursion (PortionStands h table schema) ps
+  each_stands h [] own all = tt
+  each_stands h (p ∷ ps) own all = (portion_stands h p own.0 all.0, each_stands h ps own.1 all.1)
 
   count_same : (partition : Partition) (n : ℕ) (ps : List Portion) → count_by (has_number partition n) ps ≡ count_by (has_block partition n) (map as_part ps)
   count_same partition n [] = refl
@@ -78,9 +84,9 @@ module _ (table : List ℕ) (schema : Schema) where
       ∙ ap (λ k. cond (has_number partition n p) 1 0 + k) (count_same partition n ps)
       ∙ sym (sum_by-cons (λ (q : CorePart). cond (has_block partition n q) 1 0) (as_part p) (map as_part ps))
 
-  portions_stand : (h : History) (ps : List Portion) → TableStands table (map as_part ps) (made h) → PortionsStand h table schema ps
-  portions_stand h ps s = record {
-    each = All-from_recursion (PortionStands h table schema) ps (each_stands h ps (recursion_from_All (PartStands (made h)) (map as_part ps) s.each));
+  portions_stand : (h : History) (ps : List Portion) → All Unmutated ps → TableStands table (map as_part ps) (made h) → PortionsStand h table schema ps
+  portions_stand h ps own s = record {
+    each = All-from_recursion (PortionStands h table schema) ps (each_stands h ps (recursion_from_All Unmutated ps own) (recursion_from_All (PartStands (made h)) (map as_part ps) s.each));
     once = λ partition n is. count_same partition n ps ∙ s.once partition n (number_made partition n h is);
   }
 
@@ -89,11 +95,13 @@ module _ (table : List ℕ) (schema : Schema) where
   -- the portions of a history, each with its number
   record Stand (h : History) (ps : List Portion) : Type 0 where
     count : length ps ≡ length (numbered table h)
+    own : All Unmutated ps
     stands : TableStands table (map as_part ps) (made h)
 
   none_yet : Stand [] []
   none_yet = record {
     count = refl;
+    own = All-nil Unmutated;
     stands = record {
       own = All-nil (λ (p : CorePart). p.table ≡ table);
       each = All-nil (PartStands (made []));
@@ -108,6 +116,7 @@ module _ (table : List ℕ) (schema : Schema) where
   stand_kept : (h : History) (e : Entry) (ps : List Portion) → numbered table (e ∷ []) ≡ [] → Stand h ps → Stand (h ++ e ∷ []) ps
   stand_kept h e ps none s = record {
     count = s.count ∙ ap length (sym (numbered_more table h (e ∷ []) ∙ ap (λ cs. numbered table h ++ cs) none ∙ append-nil (numbered table h)));
+    own = s.own;
     stands = table_kept table (map as_part ps) (made h) (e ∷ []) none s.stands;
   }
 
@@ -135,6 +144,7 @@ module _ (table : List ℕ) (schema : Schema) where
       let part : new ≡ as_part (portion_of schema (length ps + 1) i) = ap₂ (one_part i) named number in
       record {
         count = length-append ps (portion_of schema (length ps + 1) i ∷ []) ∙ ap (λ n. n + 1) s.count ∙ sym (length-append (numbered table h) (command.Insert i ∷ [])) ∙ ap length (sym drawn);
+        own = All-push Unmutated ps (portion_of schema (length ps + 1) i) s.own refl;
         stands = subst (λ qs. TableStands table qs (made (h ++ e ∷ [])))
             (ap (λ q. map as_part ps ++ q ∷ []) part ∙ sym (map-append as_part ps (portion_of schema (length ps + 1) i ∷ [])))
             (subst (λ t. TableStands t (map as_part ps ++ new ∷ []) (made (h ++ e ∷ []))) named grown);
@@ -158,4 +168,4 @@ module _ (table : List ℕ) (schema : Schema) where
       (stand_all (h ++ e ∷ []) es (portions_after table schema ps e.command) (stand_after h e ps s))
 
   pub unmerged_stand : (h : History) → PortionsStand h table schema (unmerged table schema h)
-  unmerged_stand h = portions_stand h (unmerged table schema h) (stand_all [] h [] none_yet).stands
+  unmerged_stand h = let all = stand_all [] h [] none_yet in portions_stand h (unmerged table schema h) all.own all.stands

@@ -14,7 +14,8 @@ use Rattle.part_history.specs.mt_model.Live.{sorted}
 
 -- the portion of one INSERT with this number: its rows in the table's order
 abbrev pub portion_of : Schema → ℕ → Insert → Portion
-portion_of schema n i = record { partition = i.partition; least = n; greatest = n; rows = sorted (sorting_cmp schema) i.block.rows }
+portion_of schema n i =
+    record { partition = i.partition; least = n; greatest = n; version = n; rows = sorted (sorting_cmp schema) i.block.rows }
 
 -- the portions of a table after one more command: an INSERT into it is one more, with the next number
 abbrev pub portions_after : List ℕ → Schema → List Portion → Command → List Portion

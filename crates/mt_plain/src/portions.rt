@@ -10,8 +10,8 @@ use mt_values::{Command, Entry, Insert, Name, Partition, Row, Schema};
 use std::alloc::Global;
 use std::marker::Model;
 
-/// Rows of a table that are kept together: those of the INSERTs into one partition whose numbers lie in a range. Contracts see the
-/// record of its parts.
+/// Rows of a table that are kept together: those of the INSERTs into one partition whose numbers lie in a range. No mutation was
+/// applied to them. Contracts see the record of its parts.
 #[derive(Drop)]
 pub struct Portion {
     partition: Partition,
@@ -29,17 +29,19 @@ impl Model for Portion {
       partition = p.partition;
       least = p.least;
       greatest = p.greatest;
+      version = p.least;
       rows = p.rows.items;
     } };
 }
 
 impl Portion {
-    /// The rows of the INSERTs into a partition whose numbers lie from `least` to `greatest`.
+    /// The rows of the INSERTs into a partition whose numbers lie from `least` to `greatest`, as they were inserted.
     pub fn new(partition: Partition, least: usize, greatest: usize, rows: Vec<Row>) -> Self
         ensures { result ≡ record {
           partition = partition;
           least = least;
           greatest = greatest;
+          version = least;
           rows = rows.items;
         } }
     {

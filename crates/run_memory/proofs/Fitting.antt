@@ -4,19 +4,18 @@ use Rattle.std.specs.List.{AllByRecursion}
 use Rattle.std.proofs.lemmas.List.Elements.{All-from_recursion, All-nil, recursion_from_All}
 use Rattle.mt_values.specs.declared.command.Command.{Command}
 use Rattle.mt_values.specs.declared.command.Command.TheVariants as command
+use Rattle.mt_values.specs.declared.command.Entry.{Entry}
 use Rattle.mt_values.specs.declared.schema.Schema.{Schema}
 use Rattle.mt_values.specs.declared.schema.SkipIndex.{SkipIndex}
 use Rattle.mt_values.specs.Grammar.{same_bytes}
 use Rattle.table_core.specs.mt_model.History.{History, IsInsertInto, IsTableSchema, first_of, schema_by, schema_of}
-use Rattle.table_core.specs.declared.event.Accept.{Accept}
-use Rattle.table_core.specs.declared.event.Accept.TheVariants as accept
 use Rattle.table_core.specs.declared.event.Crash.TheVariants as crash
 use Rattle.table_core.specs.declared.event.Event.{Event}
 use Rattle.table_core.specs.declared.event.Event.TheVariants as event
 use Rattle.table_core.specs.declared.event.Outcome.{Outcome}
 use Rattle.table_core.specs.declared.event.Outcome.TheVariants as outcome
 use Rattle.table_core.specs.Core.{Core, empty_core}
-use Rattle.table_core.specs.Runs.{AddAll, AddsEntries, HasEntries, MayRun, entry_of_accept}
+use Rattle.table_core.specs.Runs.{AddAll, AddsEntries, HasEntries, MayRun}
 use Rattle.table_core.specs.Steps.{GivesOutcome, MayAccept, MayCome}
 use Rattle.table_core.proofs.Telling.{run_entries}
 use Rattle.table_core.proofs.MtModelTables.{same_is}
@@ -91,66 +90,69 @@ is_table table = by (begins_with 112 table) (begins_with 114 table) (begins_with
     by false false true = of_sums_is_table
     by false false false = of_numbers_is_table
 
-may_accept : (h : History) (a : Accept) → AreOfEvents h → FitsAccept a → MayAccept h a
-may_accept h (accept.Create session c) of fits = subst IsTableSchema (sym fits) (is_table c.table)
-may_accept h (accept.Insert session i) of fits = λ schema is. subst (λ s. IsInsertInto s i) (sym (found i.table h schema of is)) fits
+may_accept : (h : History) (c : Command) → AreOfEvents h → FitsAccept c → MayAccept h c
+may_accept h (command.Create c) of fits = subst IsTableSchema (sym fits) (is_table c.table)
+may_accept h (command.Insert i) of fits = λ schema is. subst (λ s. IsInsertInto s i) (sym (found i.table h schema of is)) fits
 
 may_come : (core : Core) (e : Event) → AreOfEvents core.history → Fits e → MayCome core e
-may_come core (event.Accept a) of fits = may_accept core.history a of fits
-may_come core (event.PutMerge m) of fits = absurd fits
+may_come core (event.Accept e) of fits = may_accept core.history e.command of fits
+may_come core (event.Put m) of fits = absurd fits
 may_come core (event.TakeSnapshot table) of fits = tt
 may_come core (event.ReadSnapshot number) of fits = tt
 may_come core (event.Crash crash.Between) of fits = tt
-may_come core (event.Crash (crash.Within a done)) of fits = may_accept core.history a of fits
+may_come core (event.Crash (crash.Within e done)) of fits = may_accept core.history e.command of fits
 may_come core (event.Crash (crash.WithinPut m done)) of fits = absurd fits
 
 both : (h more : History) → AreOfEvents h → AreOfEvents more → AreOfEvents (h ++ more)
 both [] more a b = b
 both (e ∷ h) more a b = (a.0, both h more a.1 b)
 
-one_entry : (a : Accept) → FitsAccept a → AreOfEvents (entry_of_accept a ∷ [])
-one_entry (accept.Create session c) fits = (fits, tt)
-one_entry (accept.Insert session i) fits = (tt, tt)
+of_events : (c : Command) → FitsAccept c → IsOfEvents c
+of_events (command.Create c) fits = fits
+of_events (command.Insert i) fits = tt
+
+one_entry : (e : Entry) → FitsAccept e.command → AreOfEvents (e ∷ [])
+one_entry e fits = (of_events e.command fits, tt)
 
 no_entry : AreOfEvents []
 no_entry = tt
 
 -- an accept of an event makes a table of the events or adds rows of such a table
 Enters : Event → Type 0
-Enters (event.Accept a) = FitsAccept a
-Enters (event.PutMerge m) = Unit {0}
+Enters (event.Accept e) = FitsAccept e.command
+Enters (event.Put m) = Unit {0}
 Enters (event.TakeSnapshot table) = Unit {0}
 Enters (event.ReadSnapshot number) = Unit {0}
 Enters (event.Crash crash.Between) = Unit {0}
-Enters (event.Crash (crash.Within a done)) = FitsAccept a
+Enters (event.Crash (crash.Within e done)) = FitsAccept e.command
 Enters (event.Crash (crash.WithinPut m done)) = Unit {0}
 
 enters : (e : Event) → Fits e → Enters e
 unfolding Enters
-enters (event.Accept a) fits = fits
-enters (event.PutMerge m) fits = tt
+enters (event.Accept e) fits = fits
+enters (event.Put m) fits = tt
 enters (event.TakeSnapshot table) fits = tt
 enters (event.ReadSnapshot number) fits = tt
 enters (event.Crash crash.Between) fits = tt
-enters (event.Crash (crash.Within a done)) fits = fits
+enters (event.Crash (crash.Within e done)) fits = fits
 enters (event.Crash (crash.WithinPut m done)) fits = tt
 
 enters_after : (core : Core) (e : Event) → FitsAfter core e → Enters e
 unfolding Enters
-enters_after core (event.Accept a) fits = fits
-enters_after core (event.PutMerge m) fits = tt
+enters_after core (event.Accept e) fits = fits
+enters_after core (event.Put m) fits = tt
 enters_after core (event.TakeSnapshot table) fits = tt
 enters_after core (event.ReadSnapshot number) fits = tt
 enters_after core (event.Crash crash.Between) fits = tt
-enters_after core (event.Crash (crash.Within a done)) fits = fits
+enters_after core (event.Crash (crash.Within e done)) fits = fits
 enters_after core (event.Crash (crash.WithinPut m done)) fits = tt
 
 -- the entries that an event may add
 added : (e : Event) (given : Outcome) (entries : History) → Enters e → AddsEntries e given entries → AreOfEvents entries
 unfolding Enters
-added (event.Accept a) (outcome.Accepted place) entries fits is = subst AreOfEvents (sym is) (one_entry a fits)
-added (event.Crash (crash.Within a true)) given entries fits (inl is) = subst AreOfEvents (sym is) (one_entry a fits)
-added (event.Crash (crash.Within a true)) given entries fits (inr is) = subst AreOfEvents (sym is) no_entry
+added (event.Accept e) (outcome.Accepted place) entries fits is = subst AreOfEvents (sym is) (one_entry e fits)
+added (event.Crash (crash.Within e true)) given entries fits (inl is) = subst AreOfEvents (sym is) (one_entry e fits)
+added (event.Crash (crash.Within e true)) given entries fits (inr is) = subst AreOfEvents (sym is) no_entry
 added e given entries fits is = subst AreOfEvents (sym is) no_entry
 
 all_added : (e : Event) (given : Outcome) (entries : History) → Enters e → AddAll (e ∷ []) (given ∷ []) entries → AreOfEvents entries
@@ -175,22 +177,22 @@ fitting_run events fits = may_run events empty_core no_entry (recursion_from_All
 
 -- an event that may come whatever came before
 pub fits_after : (core : Core) (e : Event) → Fits e → FitsAfter core e
-fits_after core (event.Accept a) fits = fits
-fits_after core (event.PutMerge m) fits = absurd fits
+fits_after core (event.Accept e) fits = fits
+fits_after core (event.Put m) fits = absurd fits
 fits_after core (event.TakeSnapshot table) fits = tt
 fits_after core (event.ReadSnapshot number) fits = tt
 fits_after core (event.Crash crash.Between) fits = tt
-fits_after core (event.Crash (crash.Within a done)) fits = fits
+fits_after core (event.Crash (crash.Within e done)) fits = fits
 fits_after core (event.Crash (crash.WithinPut m done)) fits = absurd fits
 
 -- such an event may come
 pub fitting_comes : (core : Core) (e : Event) → AreOfEvents core.history → FitsAfter core e → MayCome core e
-fitting_comes core (event.Accept a) of fits = may_accept core.history a of fits
-fitting_comes core (event.PutMerge m) of fits = fits
+fitting_comes core (event.Accept e) of fits = may_accept core.history e.command of fits
+fitting_comes core (event.Put m) of fits = fits
 fitting_comes core (event.TakeSnapshot table) of fits = tt
 fitting_comes core (event.ReadSnapshot number) of fits = tt
 fitting_comes core (event.Crash crash.Between) of fits = tt
-fitting_comes core (event.Crash (crash.Within a done)) of fits = may_accept core.history a of fits
+fitting_comes core (event.Crash (crash.Within e done)) of fits = may_accept core.history e.command of fits
 fitting_comes core (event.Crash (crash.WithinPut m done)) of fits = fits
 
 -- and each table of the history stays one of the events

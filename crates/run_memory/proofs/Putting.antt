@@ -10,7 +10,6 @@ use Rattle.mt_values.specs.declared.schema.Schema.{Schema}
 use Rattle.mt_values.specs.Tables.{same_partition}
 use Rattle.mt_values.specs.Values.{Row}
 use Rattle.table_core.specs.mt_model.History.{History, IsLegal, IsTableSchema, schema_of}
-use Rattle.table_core.specs.mt_model.Numbers.{within}
 use Rattle.table_core.proofs.MtModelCommands.{partition_is}
 use Rattle.table_core.specs.part_history.declared.part.CorePart.{CorePart}
 use Rattle.table_core.specs.part_history.Merges.{MergeLeaves, with_rows}
@@ -18,7 +17,7 @@ use Rattle.table_core.specs.part_history.Parts.{PartStands, TableStands, parts_i
 use Rattle.table_core.proofs.PartHistoryOwnRows.{own_rows}
 use Rattle.row_merge.specs.Merged.{ArePartRows, IsMergedOf, inputs_of}
 use Rattle.row_merge.proofs.HistoryRows.{are_part_rows, same_schema}
-use Rattle.table_core.specs.declared.event.Merge.{Merge}
+use Rattle.table_core.specs.declared.event.Put.{Put}
 use Rattle.table_core.specs.declared.event.Event.{Event}
 use Rattle.table_core.specs.declared.event.Outcome.{Outcome}
 use Rattle.table_core.specs.Core.{Core, IsCore, empty_core}
@@ -58,29 +57,29 @@ with_own h [] all = tt
 with_own h (part ∷ parts) all = (All-head (PartStands h) part parts all, with_own h parts (All-tail (PartStands h) part parts all))
 
 -- a put may come whose rows are what a merge may leave of the rows of its sources
-pub put_may : (core : Core) (m : Merge) (schema : Schema) (own : List (List Row)) → IsCore core → AreOfEvents core.history → schema_of m.table core.history ≡ Some schema
-    → own ≡ rows_of_each (parts_in m.partition (beside core m)) → LeftOfRun schema m.first m.count own m.rows → MayPut core m
+pub put_may : (core : Core) (m : Put) (schema : Schema) (own : List (List Row)) → IsCore core → AreOfEvents core.history → schema_of m.sources.table core.history ≡ Some schema
+    → own ≡ rows_of_each (parts_in m.sources.partition (beside core m.sources)) → LeftOfRun schema m.sources.first m.sources.count own m.rows → MayPut core m
 put_may core m schema own is of there own_is left = λ other others neighbours.
     let h = core.history in
-    let parts = beside core m in
-    let sources = sources_among parts m in
+    let parts = beside core m.sources in
+    let sources = sources_among parts m.sources in
     let same : schema ≡ other = same_schema schema other (sym there ∙ others) in
-    let stands = is.parts m.table in
-    let run = take m.count (drop m.first own) in
+    let stands = is.parts m.sources.table in
+    let run = take m.sources.count (drop m.sources.first own) in
     let run_is : run ≡ rows_of_each sources =
-    ap (λ (xs : List (List Row)). take m.count (drop m.first xs)) own_is
-    ∙ (ap (take m.count) (drop-map (λ (p : CorePart). p.rows) m.first (parts_in m.partition parts))
-    ∙ take-map (λ (p : CorePart). p.rows) m.count (drop m.first (parts_in m.partition parts))) in
-    let Own = λ (p : CorePart). ArePartRows schema m.partition p.rows in
-    let all : All Own (parts_in m.partition parts) = own_partition schema m.partition parts (table_rows h is.legal m.table schema parts there stands) in
-    let picked : All Own sources = All-take Own m.count (drop m.first (parts_in m.partition parts)) (All-drop Own m.first (parts_in m.partition parts) all) in
-    let rows : All (ArePartRows schema m.partition) run = subst (All (ArePartRows schema m.partition)) (sym run_is) (All-map (ArePartRows schema m.partition) (λ (p : CorePart). p.rows) sources picked) in
+    ap (λ (xs : List (List Row)). take m.sources.count (drop m.sources.first xs)) own_is
+    ∙ (ap (take m.sources.count) (drop-map (λ (p : CorePart). p.rows) m.sources.first (parts_in m.sources.partition parts))
+    ∙ take-map (λ (p : CorePart). p.rows) m.sources.count (drop m.sources.first (parts_in m.sources.partition parts))) in
+    let Own = λ (p : CorePart). ArePartRows schema m.sources.partition p.rows in
+    let all : All Own (parts_in m.sources.partition parts) = own_partition schema m.sources.partition parts (table_rows h is.legal m.sources.table schema parts there stands) in
+    let picked : All Own sources = All-take Own m.sources.count (drop m.sources.first (parts_in m.sources.partition parts)) (All-drop Own m.sources.first (parts_in m.sources.partition parts) all) in
+    let rows : All (ArePartRows schema m.sources.partition) run = subst (All (ArePartRows schema m.sources.partition)) (sym run_is) (All-map (ArePartRows schema m.sources.partition) (λ (p : CorePart). p.rows) sources picked) in
     let each : All (PartStands h) sources =
-    All-take (PartStands h) m.count (drop m.first (parts_in m.partition parts)) (All-drop (PartStands h) m.first (parts_in m.partition parts)
-    (All-filter (λ (p : CorePart). same_partition p.name.partition m.partition) (PartStands h) parts stands.each)) in
-    let long : length own ≡ length (parts_in m.partition parts) = ap length own_is ∙ length-map (parts_in m.partition parts) (λ (p : CorePart). p.rows) in
-    let within : m.first + m.count ≤ length own = subst (λ (n : ℕ). m.first + m.count ≤ n) (sym long) neighbours.within in
-    let merged : IsMergedOf schema m.partition run m.rows = left within m.partition (has_table_schema m.table h schema of there) rows in
+    All-take (PartStands h) m.sources.count (drop m.sources.first (parts_in m.sources.partition parts)) (All-drop (PartStands h) m.sources.first (parts_in m.sources.partition parts)
+    (All-filter (λ (p : CorePart). same_partition p.name.partition m.sources.partition) (PartStands h) parts stands.each)) in
+    let long : length own ≡ length (parts_in m.sources.partition parts) = ap length own_is ∙ length-map (parts_in m.sources.partition parts) (λ (p : CorePart). p.rows) in
+    let within : m.sources.first + m.sources.count ≤ length own = subst (λ (n : ℕ). m.sources.first + m.sources.count ≤ n) (sym long) neighbours.within in
+    let merged : IsMergedOf schema m.sources.partition run m.rows = left within m.sources.partition (has_table_schema m.sources.table h schema of there) rows in
     subst (λ (s : Schema). MergeLeaves h s sources m.rows) same (record {
       inputs = run;
       stand = subst (AllZip (λ (p : CorePart) (rows : List Row). PartStands h (with_rows p rows)) sources) (sym run_is) (with_own h sources each);
@@ -89,7 +88,7 @@ put_may core m schema own is of there own_is left = λ other others neighbours.
     })
 
 -- no part is there of a table that is not
-pub put_of_none : (core : Core) (m : Merge) → schema_of m.table core.history ≡ None → MayPut core m
+pub put_of_none : (core : Core) (m : Put) → schema_of m.sources.table core.history ≡ None → MayPut core m
 put_of_none core m none = λ schema there neighbours. absurd (clash schema (sym none ∙ there))
   where
     clash : (schema : Schema) → None ≡ Some schema → ⊥

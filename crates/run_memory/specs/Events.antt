@@ -8,8 +8,6 @@ use Rattle.mt_values.specs.declared.engine.Engine.TheVariants as engine
 use Rattle.mt_values.specs.declared.schema.Schema.{Schema}
 use Rattle.mt_values.specs.declared.value.ColType.TheVariants as type
 use Rattle.table_core.specs.mt_model.History.{History, IsInsertInto}
-use Rattle.table_core.specs.declared.event.Accept.{Accept}
-use Rattle.table_core.specs.declared.event.Accept.TheVariants as accept
 use Rattle.table_core.specs.declared.event.Crash.{Crash}
 use Rattle.table_core.specs.declared.event.Crash.TheVariants as crash
 use Rattle.table_core.specs.declared.event.Event.{Event}
@@ -73,20 +71,20 @@ event_schema table =
     else (if begins_with 114 table then of_lasts else (if begins_with 115 table then of_sums else of_numbers))
 
 -- a CREATE makes such a table, and an INSERT has rows of such a table
-abbrev pub FitsAccept : Accept → Type 0
-FitsAccept (accept.Create session c) = c.schema ≡ event_schema c.table
-FitsAccept (accept.Insert session i) = IsInsertInto (event_schema i.table) i
+abbrev pub FitsAccept : Command → Type 0
+FitsAccept (command.Create c) = c.schema ≡ event_schema c.table
+FitsAccept (command.Insert i) = IsInsertInto (event_schema i.table) i
 
 -- a crash comes between events, or within such an accept
 abbrev pub FitsCrash : Crash → Type 0
 FitsCrash crash.Between = Unit {0}
-FitsCrash (crash.Within a done) = FitsAccept a
+FitsCrash (crash.Within e done) = FitsAccept e.command
 FitsCrash (crash.WithinPut m done) = ⊥
 
 -- an event is such an accept, the taking or the reading of a snapshot, or such a crash; none is a put
 abbrev pub Fits : Event → Type 0
-Fits (event.Accept a) = FitsAccept a
-Fits (event.PutMerge m) = ⊥
+Fits (event.Accept e) = FitsAccept e.command
+Fits (event.Put m) = ⊥
 Fits (event.TakeSnapshot table) = Unit {0}
 Fits (event.ReadSnapshot number) = Unit {0}
 Fits (event.Crash c) = FitsCrash c
@@ -94,13 +92,13 @@ Fits (event.Crash c) = FitsCrash c
 -- a crash after some events: the same, or within a put of what a merge may leave of the parts that are there
 abbrev pub FitsCrashAfter : Core → Crash → Type 0
 FitsCrashAfter core crash.Between = Unit {0}
-FitsCrashAfter core (crash.Within a done) = FitsAccept a
+FitsCrashAfter core (crash.Within e done) = FitsAccept e.command
 FitsCrashAfter core (crash.WithinPut m done) = MayPut core m
 
 -- an event after some others: the same, or a put of what a merge may leave of the parts that are there
 abbrev pub FitsAfter : Core → Event → Type 0
-FitsAfter core (event.Accept a) = FitsAccept a
-FitsAfter core (event.PutMerge m) = MayPut core m
+FitsAfter core (event.Accept e) = FitsAccept e.command
+FitsAfter core (event.Put m) = MayPut core m
 FitsAfter core (event.TakeSnapshot table) = Unit {0}
 FitsAfter core (event.ReadSnapshot number) = Unit {0}
 FitsAfter core (event.Crash c) = FitsCrashAfter core c

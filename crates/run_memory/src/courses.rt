@@ -12,12 +12,12 @@ use crate::standing::stand;
 use crate::text::first_word;
 use mt_base::{NoMemory, Partition, Seq, Twin};
 use mt_plain::same_partition;
-use mt_values::{Name, Row, Schema};
+use mt_values::{Row, Schema};
 use row_merge::merge_rows;
 use std::alloc::Global;
 use std::marker::Model;
 use table_core::part_history::CorePart;
-use table_core::{CoreState, Crash, Event, Merge, Outcome, step};
+use table_core::{CoreState, Crash, Event, Outcome, Put, Sources, step};
 
 /// The tables: with several partitions, with last rows, with sums, and plain.
 const LETTERS: &[u8] = b"prst";
@@ -120,35 +120,16 @@ impl Course {
     }
 
     // A merge of neighbours in a partition of a table, with what is left of their rows, where there are such neighbours.
-    fn merge_of(
-        &self,
-        alloc: Global,
-        table: Name,
-        partition: Partition,
-        first: usize,
-        count: usize,
-    ) -> Result<Merge, NoMemory>
+    fn merge_of(&self, alloc: Global, sources: Sources) -> Result<Put, NoMemory>
         ensures { IfOk result (MayPut self.now) }
     {
-        let Some(schema) = self.state.schema(&table) else {
+        let Some(schema) = self.state.schema(&sources.table) else {
             let rows = Seq::new(alloc);
-            return Ok(Merge {
-                table,
-                partition,
-                first,
-                count,
-                rows,
-            });
+            return Ok(Put { sources, rows });
         };
-        let own = rows_in(alloc, self.state.parts(&table), partition)?;
-        let rows = left_of_run(alloc, schema, &own, first, count)?;
-        Ok(Merge {
-            table,
-            partition,
-            first,
-            count,
-            rows,
-        })
+        let own = rows_in(alloc, self.state.parts(&sources.table), sources.partition)?;
+        let rows = left_of_run(alloc, schema, &own, sources.first, sources.count)?;
+        Ok(Put { sources, rows })
     }
 
     // Whether the visible parts of each table stand for the history.
@@ -187,7 +168,7 @@ impl Tally {
 // How many parts an event merges.
 fn sources_of(event: &Event) -> usize {
     match event {
-        Event::PutMerge(merge) => merge.count,
+        Event::Put(put) => put.sources.count,
         _ => 0,
     }
 }
@@ -215,7 +196,7 @@ impl Answer {
     }
 
     // A merge, as `p 1 0 2`: of a table, a partition, the place of its first part there, and how many parts.
-    fn merge(&mut self, course: &Course, text: &str) -> Option<Merge>
+    fn merge(&mut self, course: &Course, text: &str) -> Option<Put>
         ensures { IfSome result (MayPut course.now) }
     {
         let (table, rest) = first_word(text);
@@ -225,17 +206,21 @@ impl Answer {
         let partition = self.partition_of(partition);
         let first = usize::from(self.small_of(first));
         let count = usize::from(self.small_of(count));
-        course
-            .merge_of(self.alloc, table, partition, first, count)
-            .ok()
+        let sources = Sources {
+            table,
+            partition,
+            first,
+            count,
+        };
+        course.merge_of(self.alloc, sources).ok()
     }
 
     // A crash within a put, which is done then or not.
     fn crash_in_put(&mut self, course: &Course, text: &str, done: bool) -> Option<Event>
         ensures { IfSome result (FitsAfter course.now) }
     {
-        let merge = self.merge(course, text)?;
-        Some(Event::Crash(Crash::WithinPut { merge, done }))
+        let put = self.merge(course, text)?;
+        Some(Event::Crash(Crash::WithinPut { put, done }))
     }
 
     // The next event, of a text: a put, as `put p 1 0 2`, a crash within one, as `crash done put p 1 0 2`, or another.
@@ -244,7 +229,7 @@ impl Answer {
         ensures { IfSome result (FitsAfter course.now) }
     {
         if let Some(rest) = text.strip_prefix("put ") {
-            return Some(Event::PutMerge(self.merge(course, rest)?));
+            return Some(Event::Put(self.merge(course, rest)?));
         }
         if let Some(rest) = text.strip_prefix("crash done put ") {
             return self.crash_in_put(course, rest, true);

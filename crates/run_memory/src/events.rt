@@ -9,9 +9,11 @@ ghost use Rattle.run_memory.specs.Events.{Fits, FitsAccept, FitsCrash, begins_wi
 use crate::answer::Answer;
 use crate::text::first_word;
 use mt_base::{DEFAULT_GRANULARITY, NoMemory, Partition, Seq};
-use mt_values::{Block, ColType, Column, Create, Engine, Insert, Name, Row, Schema, Value};
+use mt_values::{
+    Block, ColType, Column, Command, Create, Engine, Entry, Insert, Name, Row, Schema, Value,
+};
 use std::alloc::Global;
-use table_core::{Accept, Crash, Event, Guard, Outcome, run};
+use table_core::{Crash, Event, Guard, Outcome, run};
 
 // A column of type UInt8, whose name is one letter.
 fn number_column(alloc: Global, letter: u8) -> Result<Column, NoMemory>
@@ -215,8 +217,8 @@ impl Answer {
     }
 
     // A CREATE, as `create t`, or an INSERT of two numbers, as `insert t 3 1`: two rows, or a row of a table with several partitions.
-    fn accept(&mut self, text: &str) -> Option<Accept>
-        ensures { IfSome result FitsAccept }
+    fn accept(&mut self, text: &str) -> Option<Entry>
+        ensures { IfSome result (λ entry. FitsAccept entry.command) }
     {
         let session = 0;
         let (word, rest) = first_word(text);
@@ -225,13 +227,15 @@ impl Answer {
         if word == "create" {
             let schema = event_schema(self.alloc, &table).ok()?;
             let create = Create { table, schema };
-            return Some(Accept::Create { session, create });
+            let command = Command::Create(create);
+            return Some(Entry { session, command });
         }
         let (first, second) = first_word(numbers);
         let first = self.small_of(first);
         let second = self.small_of(second);
         let insert = insert_of(self.alloc, table, first, second).ok()?;
-        Some(Accept::Insert { session, insert })
+        let command = Command::Insert(insert);
+        Some(Entry { session, command })
     }
 
     // A crash between events, or within an accept, which is done then or not.
@@ -243,8 +247,8 @@ impl Answer {
             return Some(Crash::Between);
         }
         let done = done == "done";
-        let accept = self.accept(rest)?;
-        Some(Crash::Within { accept, done })
+        let entry = self.accept(rest)?;
+        Some(Crash::Within { entry, done })
     }
 
     /// The event of a text, which is no put.

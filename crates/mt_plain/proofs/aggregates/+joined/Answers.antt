@@ -1,4 +1,4 @@
-use Rattle.std.proofs.Common.{◌≡◌, ℕ, ◌+◌, ◌*◌, ◌/◌, ◌<◌, ◌^◌, ◌∙◌, Fits, w64, ap₂, arith, subst, sym}
+use Rattle.std.proofs.Common.{ℕ, ◌+◌, ◌*◌, ◌/◌, ◌<◌, ◌^◌, ◌∙◌, Fits, w64, ap₂, arith, subst, sym}
 use Rattle.mt_plain.proofs.Bits.{halves, stays_below}
 use Rattle.mt_plain.proofs.aggregates.+joined.Goals as goal
 
