@@ -5,6 +5,9 @@ ghost use Rattle.mt_values.specs.declared.engine.Engine.TheVariants as engine;
 ghost use Rattle.mt_values.specs.Order.{key_of};
 ghost use Rattle.mt_values.specs.Values.{types_of};
 ghost use Rattle.rule_law.proofs.Kept.{versioned_keeps};
+ghost use Rattle.rule_law.proofs.Letting.{versioned_let};
+ghost use Rattle.rule_law.specs.Changes.{IsLet};
+ghost use Rattle.rule_law.specs.mt_model.Mutations.{protects};
 ghost use Rattle.rule_law.proofs.OneSign.{versioned_law};
 
 use crate::signs::is_state;
@@ -44,6 +47,14 @@ impl RowRule for VersionedRule {
     ) };
 
     ghost law = { λ rule rows x out some takes comes leaves. versioned_law rule.sign rule.version rows x out some comes leaves };
+
+    ghost lets = { λ rule. IsLet (protects (engine.Versioned rule.sign rule.version) []) };
+
+    ghost mutates = { λ rule places key types c rows out lets apart some taken typed same run.
+        versioned_let places key types rows out some typed same
+        (versioned_keeps (λ r. types_of r ≡ types) rule.sign rule.version rows out typed run)
+        (versioned_keeps (λ r. key_of places r ≡ key) rule.sign rule.version rows out same run)
+        rule.sign rule.version c lets run };
 
     #[tactic(auto, using(crate::proofs::Pairs::one_left))]
     fn begin(&self, alloc: Global, row: &Row) -> Result<Vec<Row>, NoMemory> {

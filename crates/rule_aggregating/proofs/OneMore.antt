@@ -18,7 +18,7 @@ use Rattle.rule_law.specs.mt_model.Rules.{IsAggregateOf, IsBest, integer_of, tot
 use Rattle.rule_aggregating.specs.Folded.{FoldsIn, plus}
 use Rattle.rule_law.proofs.Aggregated.{aggregate_type, greater_order, less_order, passes_not}
 use Rattle.rule_law.proofs.OneSign.{total_after}
-use Rattle.rule_law.proofs.Wrapping.{wrapped_again, wrapped_twice}
+use Rattle.mt_values.proofs.Wrapping.{wrapped_again, wrapped_twice}
 
 -- ---- the lowest bits of what is not below 0
 

@@ -1,10 +1,11 @@
 -- One row more, folded into the values that are kept (docs/engines.md, "AggregatingMergeTree").
-use Rattle.std.specs.Prelude.{◌≡◌, ◌<◌, ℕ, List, [], ◌∷◌, ◌++◌, All, None, Option, get_or, if◌then◌else◌, length, nat_eq, ◌+ℤ◌}
+use Rattle.std.specs.Prelude.{◌≡◌, ◌<◌, ℕ, List, [], ◌∷◌, ◌++◌, All, None, Option, get_or, length}
 use Rattle.mt_values.specs.declared.engine.Aggregate.{Aggregate}
 use Rattle.mt_values.specs.declared.value.Value.{Value}
+pub use Rattle.mt_values.specs.Sums.{plus}
 use Rattle.mt_values.specs.Values.{Row, type_of}
-pub use Rattle.rule_law.specs.Added.{any_value, plus}
-use Rattle.rule_law.specs.mt_model.Rules.{IsAggregateOf, function_or_first, integer_of, wrapped_as}
+pub use Rattle.rule_law.specs.TableRows.{any_value}
+use Rattle.rule_law.specs.mt_model.Rules.{IsAggregateOf, function_or_first}
 
 -- where the one is what a function makes of some values, the last is what it makes of them and of one value more of their type (docs/engines.md, "AggregatingMergeTree")
 abbrev pub FoldsIn : Aggregate → Value → Value → Value → Type 0

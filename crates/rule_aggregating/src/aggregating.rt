@@ -1,9 +1,12 @@
 // AggregatingMergeTree: one row of a key stays, each value by the function of its column (docs/engines.md, "AggregatingMergeTree").
-ghost use Rattle.std.specs.Prelude.{◌≡◌, All, None, Some, length, slice_get};
+ghost use Rattle.std.specs.Prelude.{◌≡◌, [], All, None, Some, length, slice_get};
 ghost use Rattle.rule_law.specs.mt_model.Rules.{AreAggregatesFrom, Folds, Run};
 ghost use Rattle.mt_values.specs.Values.{types_of};
 ghost use Rattle.mt_values.specs.declared.engine.Engine.TheVariants as engine;
-ghost use Rattle.rule_law.proofs.Aggregated.{aggregating_keeps, aggregating_law, aggregating_stays};
+ghost use Rattle.rule_law.proofs.Aggregated.{aggregating_keeps, aggregating_law, aggregating_stays, taken_types};
+ghost use Rattle.rule_law.proofs.Letting.{aggregating_let, left_of_types};
+ghost use Rattle.rule_law.specs.Changes.{IsLet};
+ghost use Rattle.rule_law.specs.mt_model.Mutations.{protects};
 
 use crate::folding::{fold_row, read_number};
 use mt_base::{NoMemory, Seq, Twin};
@@ -43,6 +46,14 @@ impl RowRule for AggregatingRule {
 
     ghost law = { λ rule rows x out some takes comes leaves.
         aggregating_law rule.types rule.functions rows x out some takes comes leaves };
+
+    ghost lets = { λ rule. IsLet (protects engine.Aggregating rule.functions) };
+
+    ghost mutates = { λ rule places key types c rows out lets apart some taken typed same run.
+        aggregating_let places key rule.types rows out some (taken_types rule.types rule.functions rows taken) same
+        (left_of_types rule.types rule.functions rows out some taken run)
+        (aggregating_keeps rule.types rule.functions places key rows out apart some taken same run)
+        rule.functions c (taken 0 [] some).1 lets run };
 
     fn begin(&self, alloc: Global, row: &Row) -> Result<Vec<Value>, NoMemory> {
         // Reading each number shows that it is in its type's range.

@@ -5,8 +5,7 @@ ghost use Rattle.rule_law.specs.mt_model.Rules.{function_or_first, joined_bits};
 ghost use Rattle.rule_aggregating.specs.Folded.{FoldsAt, FoldsIn, any_value};
 
 use mt_base::{NoMemory, Twin};
-use mt_values::{Aggregate, Row, Value, cmp_value};
-use rule_law::add_number;
+use mt_values::{Aggregate, Row, Value, add_number, cmp_value};
 use std::alloc::Global;
 
 /// Folds the values of a row into those that are kept.

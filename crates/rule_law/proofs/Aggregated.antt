@@ -28,7 +28,7 @@ use Rattle.mt_model.specs.Rules.{AreAggregatesFrom, Folds, IsAggregateOf, IsBest
 use Rattle.rule_law.proofs.Bits.{all_bits, fold_type, joined_within, odd_bits, some_bits}
 use Rattle.rule_law.proofs.Merging.{law_of_merges, leaves_run}
 use Rattle.rule_law.proofs.OneSign.{total_after}
-use Rattle.rule_law.proofs.Wrapping.{integer_wrapped, number_among, number_as, number_twice, wrapped_again, wrapped_alike, wrapped_twice, wrapped_type}
+use Rattle.mt_values.proofs.Wrapping.{integer_wrapped, number_among, number_as, number_twice, wrapped_again, wrapped_alike, wrapped_twice, wrapped_type}
 
 -- ---- lists
 
@@ -405,7 +405,7 @@ aggregating_stays types functions own rows out some taken typed h = (
 
 -- ---- columns without a function keep their first value
 
-values_same : (places : List ℕ) (a b : Row) → All (λ place. slice_get a place ≡ slice_get b place) places → key_of places a ≡ key_of places b
+pub values_same : (places : List ℕ) (a b : Row) → All (λ place. slice_get a place ≡ slice_get b place) places → key_of places a ≡ key_of places b
 values_same [] a b same = refl
 values_same (place ∷ places) a b same =
     ap₂ cons_option (All-head (λ p. slice_get a p ≡ slice_get b p) place places same) (values_same places a b (All-tail (λ p. slice_get a p ≡ slice_get b p) place places same))

@@ -12,7 +12,7 @@ use Rattle.mt_model.specs.Folding.{Merges, ComesFrom, Leaves}
 use Rattle.mt_model.specs.Rules.{Folds, Run, LeavesSums, are_zero, is_one_of, total, with_sums}
 use Rattle.rule_law.proofs.Merging.{law_of_merges}
 use Rattle.rule_law.proofs.OneSign.{column_total}
-use Rattle.rule_law.proofs.Wrapping.{number_among, number_as, wrapped_alike}
+use Rattle.mt_values.proofs.Wrapping.{number_among, number_as, wrapped_alike}
 use Rattle.rule_law.proofs.Summed.{left_counts, sums_alike, sums_key, sums_twice, sums_type, type_at}
 
 -- ---- one of some rows

@@ -4,7 +4,6 @@ use Rattle.std.specs.List.{All}
 use Rattle.std.specs.Ordering.{is_eq}
 use Rattle.std.proofs.lemmas.Cmp.{tied_itself}
 use Rattle.std.proofs.lemmas.List.Elements.{All-append, All-filter, All-head, All-same, All-tail}
-use Rattle.mt_base.specs.declared.partition.Partition.{Partition}
 use Rattle.mt_values.specs.declared.schema.Schema.{Schema}
 use Rattle.mt_values.specs.Tables.{partition_of, same_partition, sorting_cmp}
 use Rattle.mt_values.specs.Values.{Row}

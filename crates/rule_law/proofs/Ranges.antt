@@ -1,10 +1,9 @@
 -- What folds make of values within the ranges of their types is within them.
-use Rattle.std.proofs.Common.{◌≡◌, ℕ, ℤ, pos, negsuc, zero, suc, ◌+◌, ◌-◌, ◌<◌, ◌^◌, ◌%◌, Bool, true, false, List, [], ◌∷◌, ◌++◌, length, get_or, Option, None, Some, refl, sym, ap, ◌∙◌, subst, arith, slice_get, unsigned_abs}
+use Rattle.std.proofs.Common.{◌≡◌, ℕ, ℤ, pos, negsuc, ◌+◌, ◌<◌, ◌^◌, ◌%◌, Bool, true, false, List, [], ◌∷◌, ◌++◌, Option, None, Some, refl, sym, subst, arith, slice_get, unsigned_abs}
 use Rattle.std.proofs.Math.Nat.{mod-lt}
 use Rattle.std.specs.Int.{int_rem_euclid, w8, w16, w32, w64}
 use Rattle.std.specs.Int.Bits.{and_lt, bit_and, bit_or, bit_xor}
 use Rattle.std.specs.List.{All, Contains, cons_option, fold, reduce}
-use Rattle.std.specs.Ordering.{is_lt}
 use Rattle.std.proofs.lemmas.Int.{SFits-int_wrap}
 use Rattle.std.proofs.lemmas.Nat.{or_lt, xor_lt}
 use Rattle.std.proofs.lemmas.List.Elements.{All-cons, All-contains, All-head, All-nil, All-tail, Contains-append_right}
@@ -15,7 +14,7 @@ use Rattle.mt_values.specs.declared.value.Value.{Value}
 use Rattle.mt_values.specs.declared.value.Value.TheVariants as value
 use Rattle.mt_values.specs.Grid.{column_of}
 use Rattle.mt_values.specs.Values.{FitsType, Row}
-use Rattle.mt_model.specs.Rules.{AreAggregatesFrom, IsAggregateOf, function_or_first, is_one_of, joined_bits, low_bits, summed, total, with_sums_from, wrapped_as}
+use Rattle.mt_model.specs.Rules.{AreAggregatesFrom, IsAggregateOf, function_or_first, is_one_of, joined_bits, summed, total, with_sums_from, wrapped_as}
 
 -- ---- numbers
 

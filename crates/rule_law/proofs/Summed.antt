@@ -11,7 +11,7 @@ use Rattle.mt_values.specs.Grid.{column_of}
 use Rattle.mt_values.specs.Order.{key_of}
 use Rattle.mt_values.specs.Values.{Row, type_of, types_of}
 use Rattle.mt_model.specs.Rules.{are_zero, is_one_of, summed, total, with_sums, with_sums_from, wrapped_as}
-use Rattle.rule_law.proofs.Wrapping.{number_as, number_twice, integer_wrapped, wrapped_twice, wrapped_type}
+use Rattle.mt_values.proofs.Wrapping.{number_as, number_twice, integer_wrapped, wrapped_twice, wrapped_type}
 
 -- ---- one column
 

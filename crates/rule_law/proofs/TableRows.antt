@@ -1,10 +1,10 @@
 -- What a merge leaves of rows of a table are rows of it, of the partition of the others.
-use Rattle.std.proofs.Common.{◌≡◌, ℕ, ◌<◌, Bool, true, false, cond, List, [], ◌∷◌, length, map, slice_get, Option, None, Some, refl, sym, ap, ◌∙◌, subst, arith}
+use Rattle.std.proofs.Common.{◌≡◌, ℕ, ◌<◌, false, cond, List, [], ◌∷◌, length, slice_get, Option, None, Some, refl, sym, ◌∙◌, subst, arith}
 use Rattle.std.specs.List.{All}
 use Rattle.std.proofs.lemmas.List.{length-map}
 use Rattle.std.proofs.lemmas.List.Elements.{All-cons, All-head, All-nil, All-same, All-weaker}
 use Rattle.mt_base.specs.declared.partition.Partition.{Partition}
-use Rattle.mt_base.specs.declared.partition.Partition.TheVariants.{Whole, Number}
+use Rattle.mt_base.specs.declared.partition.Partition.TheVariants.{Number}
 use Rattle.mt_values.specs.declared.engine.Aggregate.{Aggregate}
 use Rattle.mt_values.specs.declared.engine.Engine.{Engine}
 use Rattle.mt_values.specs.declared.engine.Engine.TheVariants as engine
@@ -18,7 +18,7 @@ use Rattle.mt_values.specs.Values.{FitsType, Row, types_of}
 use Rattle.mt_model.specs.Partial.{TableRun, functions_of}
 use Rattle.mt_model.specs.Rules.{LeavesAggregates, LeavesSums, Run, are_zero, is_one_of, with_sums}
 use Rattle.rule_law.specs.TableRows.{IsRowOf, IsTableRow}
-use Rattle.rule_law.proofs.Aggregated.{TakesRow, first_kept, left_types}
+use Rattle.rule_law.proofs.Aggregated.{first_kept, left_types}
 use Rattle.rule_law.proofs.Kept.{collapsing_keeps, plain_keeps, replacing_keeps, versioned_keeps}
 use Rattle.rule_law.proofs.OneSum.{all_one, carried_one, left_all}
 use Rattle.rule_law.proofs.Ranges.{aggregates_fit, sums_fit}

@@ -2,10 +2,10 @@
 //! within the engine's rule.
 #![tactic(auto)]
 
-mod adding;
+mod laws;
 mod reading;
 mod rule;
 
-pub use adding::add_number;
+pub use laws::mutations_go_with_merges;
 pub use reading::version_of;
 pub use rule::RowRule;

@@ -4,8 +4,10 @@ ghost use Rattle.mt_model.specs.Folding.{ComesFrom, Leaves};
 ghost use Rattle.mt_values.specs.Grid.{AreRowsOf};
 ghost use Rattle.mt_values.specs.Order.{key_of};
 ghost use Rattle.mt_values.specs.Values.{Row};
+ghost use Rattle.mt_values.specs.declared.change.Change.{Change};
 ghost use Rattle.mt_values.specs.declared.value.ColType.{ColType};
 ghost use Rattle.mt_values.specs.declared.value.Value.{Value};
+ghost use Rattle.rule_law.specs.Changes.{StaysLeft};
 
 use mt_base::NoMemory;
 use mt_values::Row;
@@ -27,6 +29,9 @@ pub trait RowRule {
 
     /// The rule leaves the columns at these places as they are.
     ghost apart: { Self → List ℕ → Type 0 };
+
+    /// The changes that the rule lets pass, where the sorting columns are at these places.
+    ghost lets: { Self → List ℕ → Change → Type 0 };
 
     /// A state of these rows.
     ghost holds: { Self → Self.State → List Row → Type 0 };
@@ -67,4 +72,12 @@ pub trait RowRule {
     /// Whatever was merged before, and at whatever times, what is left of the rest is what FINAL may leave of all rows.
     ghost law: { (rule : Self) (rows x out : List Row) → 0 < length rows → All (takes rule) rows
         → ComesFrom (run rule) rows x → Leaves (run rule) x out → folds rule rows out };
+
+    /// A change that the rule lets pass makes of rows of one key, and of what is left of them, rows and what the rule may leave of
+    /// these; or it leaves no row on either side. So it may be made before or after merges.
+    ghost mutates: { (rule : Self) (places : List ℕ) (key : List Value) (types : List ColType)
+        (c : Change) (rows out : List Row) → lets rule places c → apart rule places
+        → 0 < length rows → All (takes rule) rows → AreRowsOf types rows
+        → All (λ r. key_of places r ≡ key) rows → run rule rows out
+        → StaysLeft (run rule) c rows out };
 }

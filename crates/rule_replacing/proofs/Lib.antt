@@ -12,4 +12,3 @@ pub use Rattle.rule_law.proofs.PartlyRows as RuleLawPartlyRows
 pub use Rattle.rule_law.proofs.Ranges as RuleLawRanges
 pub use Rattle.rule_law.proofs.Summed as RuleLawSummed
 pub use Rattle.rule_law.proofs.TableRows as RuleLawTableRows
-pub use Rattle.rule_law.proofs.Wrapping as RuleLawWrapping

@@ -5,6 +5,7 @@ ghost use Rattle.mt_values.specs.declared.engine.Engine.TheVariants as engine;
 ghost use Rattle.mt_values.specs.Order.{key_of};
 ghost use Rattle.mt_values.specs.Values.{types_of};
 ghost use Rattle.rule_law.proofs.AllRows.{plain_law};
+ghost use Rattle.rule_law.proofs.Changed.{plain_let};
 ghost use Rattle.rule_law.proofs.Kept.{plain_keeps};
 
 use mt_base::{NoMemory, Twin};
@@ -34,6 +35,10 @@ impl RowRule for PlainRule {
     ghost stays_taken = { λ rule types rows out some taken typed run. (λ k d below. tt, plain_keeps (λ r. types_of r ≡ types) rows out typed run) };
 
     ghost law = { λ rule rows x out some takes comes leaves. plain_law rows x out some comes leaves };
+
+    ghost lets = { λ rule places c. Unit {0} };
+
+    ghost mutates = { λ rule places key types c rows out lets apart some taken typed same run. plain_let [] c rows out run };
 
     fn begin(&self, alloc: Global, row: &Row) -> Result<Vec<Row>, NoMemory> {
         let mut kept = Vec::new(alloc);

@@ -6,7 +6,10 @@ ghost use Rattle.mt_values.specs.Order.{key_of};
 ghost use Rattle.mt_values.specs.Values.{types_of};
 ghost use Rattle.rule_replacing.specs.Replaced.{replaces};
 ghost use Rattle.rule_law.proofs.Kept.{replacing_keeps};
+ghost use Rattle.rule_law.proofs.Letting.{replacing_let};
 ghost use Rattle.rule_law.proofs.OneRow.{replacing_law};
+ghost use Rattle.rule_law.specs.Changes.{IsLet};
+ghost use Rattle.rule_law.specs.mt_model.Mutations.{protects};
 
 use mt_base::{NoMemory, Twin};
 use mt_values::Row;
@@ -38,6 +41,14 @@ impl RowRule for ReplacingRule {
     ghost stays_taken = { λ rule types rows out some taken typed run. (λ k d below. tt, replacing_keeps (λ r. types_of r ≡ types) rule.version rows out typed run) };
 
     ghost law = { λ rule rows x out some takes comes leaves. replacing_law rule.version rows x out some comes leaves };
+
+    ghost lets = { λ rule. IsLet (protects (engine.Replacing rule.version) []) };
+
+    ghost mutates = { λ rule places key types c rows out lets apart some taken typed same run.
+        replacing_let places key types rows out some typed same
+        (replacing_keeps (λ r. types_of r ≡ types) rule.version rows out typed run)
+        (replacing_keeps (λ r. key_of places r ≡ key) rule.version rows out same run)
+        rule.version c lets run };
 
     #[tactic(auto, using(crate::proofs::KeptRow::kept_first))]
     fn begin(&self, alloc: Global, row: &Row) -> Result<Row, NoMemory> {

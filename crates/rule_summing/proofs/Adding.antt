@@ -14,7 +14,7 @@ use Rattle.rule_law.specs.mt_model.Rules.{integer_of, is_one_of, summed, total, 
 use Rattle.rule_law.proofs.OneSign.{column_total}
 use Rattle.rule_law.proofs.OneSum.{all_one}
 use Rattle.rule_law.proofs.Summed.{type_at, value_at}
-use Rattle.rule_law.proofs.Wrapping.{wrapped_again, wrapped_twice, wrapped_type}
+use Rattle.mt_values.proofs.Wrapping.{wrapped_again, wrapped_twice, wrapped_type}
 use Rattle.std.specs.List.{All, cons_option}
 use Rattle.rule_summing.specs.Summed.{HasSums, added_at, any_value, changed_from, plus, plus_found}
 

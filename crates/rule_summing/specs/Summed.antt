@@ -1,11 +1,12 @@
 -- The sums so far, and a row's numbers added to them (docs/engines.md, "SummingMergeTree").
-use Rattle.std.specs.Prelude.{◌≡◌, ◌+◌, ℕ, pos, ◌+ℤ◌, Bool, if◌then◌else◌, nat_eq, List, [], ◌∷◌, ◌++◌, Option, None, Some, slice_get}
+use Rattle.std.specs.Prelude.{◌≡◌, ◌+◌, ℕ, pos, Bool, if◌then◌else◌, List, [], ◌∷◌, ◌++◌, Option, None, Some, slice_get}
 use Rattle.std.specs.Ordering.{int_eq}
 use Rattle.mt_values.specs.declared.value.Value.{Value}
 use Rattle.mt_values.specs.Grid.{column_of}
+pub use Rattle.mt_values.specs.Sums.{plus}
 use Rattle.mt_values.specs.Values.{Row}
-pub use Rattle.rule_law.specs.Added.{any_value, plus}
-use Rattle.rule_law.specs.mt_model.Rules.{integer_of, is_one_of, total, with_sums, wrapped_as}
+pub use Rattle.rule_law.specs.TableRows.{any_value}
+use Rattle.rule_law.specs.mt_model.Rules.{is_one_of, total, with_sums}
 
 -- one of the rows, with the sums of all of them in its summed columns (docs/engines.md, "SummingMergeTree")
 pub record HasSums (places : List ℕ) (rows : List Row) (sums : Row) : Type 0 where

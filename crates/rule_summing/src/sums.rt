@@ -4,8 +4,7 @@ ghost use Rattle.std.specs.Ordering.{int_eq};
 ghost use Rattle.rule_law.specs.mt_model.Rules.{are_zero, integer_of, is_one_of, summed, with_sums, wrapped_as};
 ghost use Rattle.rule_summing.specs.Summed.{added_at, any_value, changed_from, is_zero_at};
 
-use mt_values::{Row, Value};
-use rule_law::add_number;
+use mt_values::{Row, Value, add_number};
 
 /// Sets the sums to those of no rows, which are 0, in the columns at these places alone.
 pub(crate) fn clear_row(sums: &mut [Value], places: &[u32])
