@@ -1,4 +1,3 @@
-pub mod Gone
 pub mod Places
 pub mod Shelves
 pub mod Tables

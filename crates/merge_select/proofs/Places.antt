@@ -5,8 +5,8 @@ use Rattle.std.proofs.lemmas.Option.{same_Some, slice_get_read, slice_get_within
 use Rattle.std.specs.Option.{IfSome}
 use Rattle.mt_base.specs.declared.policy.Policy.{Policy}
 use Rattle.mt_base.specs.declared.policy.Policy.TheVariants.{Near, Head, Tail}
-use Rattle.mutation_queue.specs.declared.numbered.Mutation.{Mutation}
-use Rattle.part_set.specs.declared.kept.Kept.{Kept}
+use Rattle.mt_values.specs.declared.mutation.Mutation.{Mutation}
+use Rattle.mutation_queue.specs.part_set.declared.kept.Kept.{Kept}
 use Rattle.merge_select.specs.Picks.{Chooses, IsFreePair, MayTake, Prefers, Suits}
 
 module _ {P : Type 0} (count : P → ℕ) (mutations : List Mutation) (policy : Policy) where

@@ -3,9 +3,9 @@ use Rattle.std.proofs.Common.{◌≡◌, ℕ, ◌+◌, ◌-◌, ◌<◌, ◌≤�
 use Rattle.std.proofs.lemmas.Bool.{cases_lt}
 use Rattle.std.proofs.lemmas.Option.{same_Some, slice_get-get_or, slice_get_within}
 use Rattle.std.specs.List.{AllWithin}
-use Rattle.mutation_queue.specs.declared.numbered.Mutation.{Mutation}
+use Rattle.mt_values.specs.declared.mutation.Mutation.{Mutation}
 use Rattle.mutation_queue.specs.Pending.{MayMerge}
-use Rattle.part_set.specs.declared.kept.Kept.{Kept}
+use Rattle.mutation_queue.specs.part_set.declared.kept.Kept.{Kept}
 use Rattle.merge_select.specs.Whole.{AllMayMerge, AreParted, IsFirstBusy}
 
 module _ {P : Type 0} (mutations : List Mutation) (parts : List (Kept P)) where

@@ -1,23 +1,20 @@
 -- Which pair of neighbours a merge takes (docs/engines.md, "Which parts are merged").
-use Rattle.std.specs.Prelude.{◌≡◌, ◌⊎◌, ℕ, ◌+◌, ◌*◌, ◌<◌, ◌≤◌, min, max, false, List, slice_get, Some}
-use Rattle.std.specs.Cmp.Lexicographic.{slice_cmp}
-use Rattle.std.specs.Ordering.{nat_cmp}
-use Rattle.std.specs.declared.cmp.Ordering.TheVariants.{Less}
+use Rattle.std.specs.Prelude.{◌≡◌, ℕ, ◌+◌, ◌*◌, ◌<◌, ◌≤◌, min, max, false, List, slice_get, Some}
 use Rattle.mt_base.specs.declared.partition.Partition.{Partition}
 use Rattle.mt_base.specs.declared.policy.Policy.{Policy}
 use Rattle.mt_base.specs.declared.policy.Policy.TheVariants.{Near, Head, Tail}
 use Rattle.mt_base.specs.Limits.{level_limit}
 use Rattle.mutation_queue.specs.declared.mutations.Mutations.{Mutations}
-use Rattle.mutation_queue.specs.declared.numbered.Mutation.{Mutation}
+use Rattle.mt_values.specs.declared.mutation.Mutation.{Mutation}
 use Rattle.mutation_queue.specs.Pending.{MayMerge}
 use Rattle.mutation_queue.specs.Queue.{mutations_of}
-use Rattle.part_set.specs.declared.kept.Kept.{Kept}
-use Rattle.part_set.specs.declared.set.PartSet.{PartSet}
-use Rattle.part_set.specs.Parts.{kept_in, partition_rank}
-use Rattle.part_set.specs.Sets.{parts_of}
-use Rattle.merge_select.specs.declared.scope.Pick.{Pick}
-use Rattle.merge_select.specs.declared.scope.Scope.{Scope}
-use Rattle.merge_select.specs.declared.scope.Scope.TheVariants as scopes
+use Rattle.mutation_queue.specs.Scopes.{ComesBefore, InScope}
+use Rattle.mutation_queue.specs.part_set.declared.kept.Kept.{Kept}
+use Rattle.mutation_queue.specs.part_set.declared.set.PartSet.{PartSet}
+use Rattle.mutation_queue.specs.part_set.Parts.{kept_in}
+use Rattle.mutation_queue.specs.part_set.Sets.{parts_of}
+use Rattle.merge_select.specs.declared.found.Pick.{Pick}
+use Rattle.mutation_queue.specs.declared.scope.Scope.{Scope}
 
 -- a pair is free where no mutation parts it, neither part bears a mark, and the merged part's level is one that a part may have
 pub record IsFreePair {P : Type 0} (mutations : List Mutation) (a b : Kept P) : Type 0 where
@@ -58,16 +55,6 @@ pub record Choice (P : Type 0) : Type 0 where
   pub queue : Mutations
   pub count : P → ℕ
   pub policy : Policy
-
--- the partition of a table lies in the scope
-abbrev pub InScope : Scope → List ℕ → Partition → Type 0
-InScope scopes.All t p = Unit {0}
-InScope (scopes.Table table) t p = t ≡ table.now
-InScope (scopes.Partition table partition) t p = (t ≡ table.now) × (p ≡ partition)
-
--- tables come by their names in byte order, and the partitions of a table ascending
-abbrev pub ComesBefore : List ℕ → Partition → List ℕ → Partition → Type 0
-ComesBefore t p table partition = (slice_cmp nat_cmp t table ≡ Less) ⊎ ((t ≡ table) × (partition_rank p < partition_rank partition))
 
 -- the policy may take no pair of the partition of a table
 abbrev pub HasNone : {P : Type 0} → Choice P → List ℕ → Partition → Type 0

@@ -1,11 +1,11 @@
 -- When all parts of a partition are merged (docs/engines.md, "Which parts are merged").
 use Rattle.std.specs.Prelude.{◌≡◌, ◌⊎◌, ℕ, ◌+◌, ◌<◌, true, false, List, [], length, slice_get, Option, Some, None, Result, Ok, Err}
 use Rattle.std.specs.List.{All, AllWithin}
-use Rattle.mutation_queue.specs.declared.numbered.Mutation.{Mutation}
+use Rattle.mt_values.specs.declared.mutation.Mutation.{Mutation}
 use Rattle.mutation_queue.specs.Pending.{MayMerge}
-use Rattle.part_set.specs.part_name.declared.part.PartName.{PartName}
-use Rattle.part_set.specs.declared.kept.Kept.{Kept}
-use Rattle.part_set.specs.declared.run.Run.{Run}
+use Rattle.mutation_queue.specs.part_set.part_name.declared.part.PartName.{PartName}
+use Rattle.mutation_queue.specs.part_set.declared.kept.Kept.{Kept}
+use Rattle.mutation_queue.specs.part_set.declared.run.Run.{Run}
 use Rattle.merge_select.specs.declared.whole.Busy.{Busy}
 
 -- no mutation parts two parts that follow each other

@@ -1,10 +1,10 @@
 -- What is asked of the pairs of one table.
 use Rattle.std.specs.Prelude.{ℕ, ◌<◌, List}
 use Rattle.mt_base.specs.declared.partition.Partition.{Partition}
-use Rattle.mutation_queue.specs.declared.numbered.Mutation.{Mutation}
+use Rattle.mt_values.specs.declared.mutation.Mutation.{Mutation}
 use Rattle.mutation_queue.specs.Queue.{mutations_of}
-use Rattle.part_set.specs.declared.kept.Kept.{Kept}
-use Rattle.part_set.specs.Parts.{kept_in, partition_rank}
+use Rattle.mutation_queue.specs.part_set.declared.kept.Kept.{Kept}
+use Rattle.mutation_queue.specs.part_set.Parts.{kept_in, partition_rank}
 use Rattle.merge_select.specs.declared.pairs.Wish.{Wish}
 use Rattle.merge_select.specs.Picks.{Chooses, MayTake}
 

@@ -5,7 +5,7 @@ ghost use Rattle.merge_select.specs.Wishes.{ChoosesAt, TakesAt, wished_of};
 
 use mt_base::{LEVEL_LIMIT, Name, Policy, Rows};
 use mutation_queue::Mutations;
-use part_set::Kept;
+use mutation_queue::part_set::Kept;
 
 /// What is asked of a pair of a table's parts.
 #[derive(Clone, Copy)]

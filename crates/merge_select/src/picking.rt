@@ -1,17 +1,17 @@
 // The pair that a policy takes of the parts in a scope.
 ghost use Rattle.std.specs.Prelude.{◌≡◌, ℕ, IfNone, IfSome};
 ghost use Rattle.mt_base.specs.declared.partition.Partition.{Partition as Part};
-ghost use Rattle.part_set.specs.Parts.{kept_in};
-ghost use Rattle.part_set.specs.Shelf.{all_parts};
-ghost use Rattle.merge_select.specs.declared.scope.Scope.TheVariants as scopes;
+ghost use Rattle.mutation_queue.specs.part_set.Parts.{kept_in};
+ghost use Rattle.mutation_queue.specs.part_set.Shelf.{all_parts};
+ghost use Rattle.mutation_queue.specs.declared.scope.Scope.TheVariants as scopes;
 ghost use Rattle.merge_select.specs.Picks.{IsPick, NoneIn};
 ghost use Rattle.merge_select.specs.Wishes.{IsFirstOfTable, TakesAt};
 
+use crate::Pick;
 use crate::pairs::{Wish, pick_in};
-use crate::{Pick, Scope};
 use mt_base::{Name, Partition, Policy, Rows};
-use mutation_queue::Mutations;
-use part_set::{PartSet, Run, TableParts};
+use mutation_queue::part_set::{PartSet, Run, TableParts};
+use mutation_queue::{Mutations, Scope};
 
 // The pair at this place of a partition.
 fn pair_at<'a>(table: &'a Name, partition: Partition, first: usize) -> Pick<'a>

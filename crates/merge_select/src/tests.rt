@@ -5,8 +5,8 @@ ghost use Rattle.mt_base.specs.declared.partition.Partition.TheVariants.{Whole};
 use crate::{Scope, pick, pick_all};
 use mt_base::{Name, NoMemory, Partition, Policy, Rows, Seq};
 use mutation_queue::Mutations;
-use part_set::part_name::PartName;
-use part_set::{PartSet, Run};
+use mutation_queue::part_set::part_name::PartName;
+use mutation_queue::part_set::{PartSet, Run};
 use std::alloc::Global;
 use std::test::Fail;
 

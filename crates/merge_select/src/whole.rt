@@ -2,14 +2,14 @@
 ghost use Rattle.std.specs.Prelude.{◌≡◌, false, IfNone, IfSome, MatchBool};
 ghost use Rattle.std.specs.List.{All};
 ghost use Rattle.mutation_queue.specs.Queue.{mutations_of};
-ghost use Rattle.part_set.specs.Parts.{kept_in};
-ghost use Rattle.part_set.specs.Sets.{parts_of};
+ghost use Rattle.mutation_queue.specs.part_set.Parts.{kept_in};
+ghost use Rattle.mutation_queue.specs.part_set.Sets.{parts_of};
 ghost use Rattle.merge_select.specs.Whole.{AllMayMerge, AreParted, IsFirstBusy, PicksAll};
 
 use mt_base::{Name, Partition};
 use mutation_queue::Mutations;
-use part_set::part_name::PartName;
-use part_set::{Kept, PartSet, Run};
+use mutation_queue::part_set::part_name::PartName;
+use mutation_queue::part_set::{Kept, PartSet, Run};
 
 /// A part that is to be merged bears a mark.
 #[derive(Clone, Copy, PartialEq, Eq)]

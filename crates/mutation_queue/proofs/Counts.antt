@@ -1,16 +1,16 @@
 -- The front of rising mutations whose numbers are at or below one.
-use Rattle.std.proofs.Common.{◌≡◌, ℕ, ◌+◌, ◌-◌, ◌<◌, ◌≤◌, Bool, true, false, cond, eqb, leb, ltb, List, [], ◌∷◌, ◌++◌, length, length-append, get_or, take, drop, filter, refl, sym, ap, ◌∙◌, subst, ◌⊎◌, inl, inr, ◌↔◌, arith}
+use Rattle.std.proofs.Common.{◌≡◌, ℕ, ◌+◌, ◌<◌, ◌≤◌, Bool, true, false, cond, eqb, leb, ltb, List, [], ◌∷◌, ◌++◌, length, get_or, take, drop, filter, refl, sym, ap, ◌∙◌, subst, inl, inr, arith}
 use Rattle.std.proofs.lemmas.Bool.{cases_lt}
 use Rattle.std.proofs.lemmas.Bool.Decides.{nat_tests}
 use Rattle.std.proofs.lemmas.List.{get_or-drop, get_or-take, length-drop, length-take-le, take-append-drop}
 use Rattle.std.proofs.lemmas.List.Quantifiers.{all_pairs_push}
 use Rattle.std.proofs.lemmas.List.Elements.{All-head, All-tail, filter-append}
-use Rattle.std.specs.List.{All, AllPairs, AllWithin}
+use Rattle.std.specs.List.{All, AllWithin}
 use Rattle.std.specs.List.Sorted.{IsPartitionedBy}
-use Rattle.part_name.specs.declared.part.PartName.{PartName}
-use Rattle.part_name.specs.PartNames.{data_version}
-use Rattle.mutation_queue.specs.declared.numbered.Mutation.{Mutation}
-use Rattle.mutation_queue.specs.Pending.{MayMerge, Parts, Rise, pending_for}
+use Rattle.part_set.specs.part_name.declared.part.PartName.{PartName}
+use Rattle.part_set.specs.part_name.PartNames.{data_version}
+use Rattle.mt_values.specs.declared.mutation.Mutation.{Mutation}
+use Rattle.mutation_queue.specs.Pending.{MayMerge, Rise, pending_for}
 
 -- ---- a filter that passes all, or none
 

@@ -1,3 +1,6 @@
 pub mod Listed
 pub mod Pending
 pub mod Queue
+pub mod Rewrites
+pub mod Scopes
+pub use Rattle.part_set.specs as part_set

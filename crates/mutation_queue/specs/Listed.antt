@@ -1,6 +1,6 @@
 -- What is kept for one table (docs/engines.md, "Which parts are merged").
 use Rattle.std.specs.Prelude.{ℕ, List, [], Option, Some, None}
-use Rattle.mutation_queue.specs.declared.numbered.Mutation.{Mutation}
+use Rattle.mt_values.specs.declared.mutation.Mutation.{Mutation}
 
 -- the mutations of one table, and how many more fit without memory
 pub record Listed : Type 0 where

@@ -1,9 +1,9 @@
 -- Which mutations a part waits for, and which parts may be merged (docs/engines.md, "Which parts are merged").
 use Rattle.std.specs.Prelude.{◌<◌, ◌≤◌, ◌⊎◌, nat_lt, List, filter}
 use Rattle.std.specs.List.{All, AllPairs}
-use Rattle.part_name.specs.declared.part.PartName.{PartName}
-use Rattle.part_name.specs.PartNames.{data_version}
-use Rattle.mutation_queue.specs.declared.numbered.Mutation.{Mutation}
+use Rattle.part_set.specs.part_name.declared.part.PartName.{PartName}
+use Rattle.part_set.specs.part_name.PartNames.{data_version}
+use Rattle.mt_values.specs.declared.mutation.Mutation.{Mutation}
 
 -- each mutation has a number above those before it
 abbrev pub Rise : List Mutation → Type 0

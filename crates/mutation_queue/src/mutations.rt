@@ -4,11 +4,10 @@ ghost use Rattle.std.specs.List.{All};
 ghost use Rattle.mutation_queue.specs.Pending.{MayMerge, Rise, pending_for};
 ghost use Rattle.mutation_queue.specs.Queue.{HasRoom, IsPut, listed_of, mutations_of};
 
-use crate::Mutation;
 use crate::numbered::Numbered;
 use mt_base::{NoMemory, Twin};
-use mt_values::Name;
-use part_name::PartName;
+use mt_values::{Mutation, Name};
+use part_set::part_name::PartName;
 use std::alloc::Global;
 use std::collections::BTreeMap;
 
@@ -25,6 +24,17 @@ impl Mutations {
     {
         Mutations {
             tables: BTreeMap::new(alloc),
+        }
+    }
+
+    /// The mutations of a table, by rising numbers. Takes no memory.
+    pub fn all(&self, table: &Name) -> &[Mutation]
+        ensures all { result.now ≡ mutations_of self.now table.now }
+        ensures rise { Rise (mutations_of self.now table.now) }
+    {
+        match self.tables.get(table) {
+            Some(numbered) => numbered.all(),
+            None => &[],
         }
     }
 

@@ -4,16 +4,10 @@ ghost use Rattle.std.specs.List.{All, AllWithin};
 ghost use Rattle.mutation_queue.specs.Pending.{MayMerge, Rise, pending_for};
 
 use mt_base::NoMemory;
-use part_name::{PartName, data_version};
+use mt_values::Mutation;
+use part_set::part_name::{PartName, data_version};
 use std::alloc::Global;
 use std::marker::Model;
-
-/// A mutation that was accepted.
-#[derive(Clone, Copy, Debug, PartialEq, Eq)]
-pub struct Mutation {
-    /// The number that its table drew for it.
-    pub number: u32,
-}
 
 /// The mutations of one table, by rising numbers.
 #[derive(Drop)]
@@ -22,11 +16,15 @@ pub(crate) struct Numbered {
 }
 
 impl Model for Numbered {
+    ghost use Rattle.std.specs.Coded.{codes};
     ghost use Rattle.std.specs.Prelude.{◌-◌, length, vec_capacity};
+    ghost use Rattle.mt_values.specs.PolishCode.{condition_code};
     ghost use Rattle.mutation_queue.specs.Pending.{Rise};
     ghost use Rattle.mutation_queue.specs.Listed.{Listed};
 
     ghost Value = { Listed };
+
+    ghost coded = { Prim.hlevel (codes, condition_code) };
 
     ghost view = { λ n. record { list = n.mutations.items; room = vec_capacity n.mutations - length n.mutations.items } };
 
@@ -41,6 +39,14 @@ fn count_upto(mutations: &[Mutation], number: u32) -> usize
     ensures back { AllWithin (λ m. number < m.number) mutations.now result (length mutations.now) }
 {
     mutations.partition_point(|mutation| mutation.number <= number)
+}
+
+/// The mutations above a part's data version, of some by rising numbers. Takes no memory.
+pub fn pending_in<'a>(mutations: &'a [Mutation], name: &PartName) -> &'a [Mutation]
+    requires { Rise mutations.now }
+    ensures { result.now ≡ pending_for mutations.now name.now }
+{
+    &mutations[count_upto(mutations, data_version(name))..]
 }
 
 impl Numbered {
@@ -58,8 +64,15 @@ impl Numbered {
         ensures pending { result.now ≡ pending_for self.now.list name.now }
         ensures rise { Rise self.now.list }
     {
-        let mutations = self.mutations.as_slice();
-        &mutations[count_upto(mutations, data_version(name))..]
+        pending_in(self.mutations.as_slice(), name)
+    }
+
+    /// All of them.
+    pub(crate) fn all(&self) -> &[Mutation]
+        ensures all { result.now ≡ self.now.list }
+        ensures rise { Rise self.now.list }
+    {
+        self.mutations.as_slice()
     }
 
     /// Whether none of them lies between the data versions of two parts.

@@ -1,5 +1,5 @@
 use Rattle.std.proofs.Common.{IfNone, subst, sym}
-use Rattle.merge_select.specs.declared.scope.Scope.{Scope}
+use Rattle.mutation_queue.specs.declared.scope.Scope.{Scope}
 use Rattle.merge_select.specs.Picks.{NoneIn}
 use Rattle.merge_select.proofs.picking.pick.Goals as goal
 

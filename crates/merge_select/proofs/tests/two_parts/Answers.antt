@@ -1,8 +1,8 @@
 use Rattle.std.proofs.Common.{List, subst, sym}
 use Rattle.std.proofs.lemmas.List.Elements.{All-nil}
-use Rattle.part_set.specs.part_name.PartNames.{Meet}
-use Rattle.part_set.specs.declared.kept.Kept.{Kept}
-use Rattle.part_set.specs.Parts.{NoneMeets}
+use Rattle.mutation_queue.specs.part_set.part_name.PartNames.{Meet}
+use Rattle.mutation_queue.specs.part_set.declared.kept.Kept.{Kept}
+use Rattle.mutation_queue.specs.part_set.Parts.{NoneMeets}
 use Rattle.merge_select.specs.declared.tests.Pile.{Pile}
 use Rattle.merge_select.proofs.tests.two_parts.Goals as goal
 

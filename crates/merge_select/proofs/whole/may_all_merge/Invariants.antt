@@ -2,7 +2,7 @@
 use Rattle.std.proofs.Common.{◌≡◌, ℕ, ◌+◌, ◌<◌, slice_get, Some}
 use Rattle.mutation_queue.specs.Pending.{MayMerge}
 use Rattle.mutation_queue.specs.Queue.{mutations_of}
-use Rattle.part_set.specs.declared.kept.Kept.{Kept}
+use Rattle.mutation_queue.specs.part_set.declared.kept.Kept.{Kept}
 use Rattle.merge_select.proofs.whole.may_all_merge.Given as goal
 
 abbrev pub invariant-loop-next : goal.invariant-loop-next

@@ -2,7 +2,7 @@ use Rattle.std.proofs.Common.{◌≡◌, ◌∙◌, ◌<◌, ◌++◌, ◌∷◌
 use Rattle.std.proofs.lemmas.Result.{on_err_weaker, on_ok_weaker}
 use Rattle.std.specs.BTreeMap.{BTreeMap}
 use Rattle.std.specs.Result.{OnErr, OnOk}
-use Rattle.mutation_queue.specs.declared.numbered.Mutation.{Mutation}
+use Rattle.mt_values.specs.declared.mutation.Mutation.{Mutation}
 use Rattle.mutation_queue.specs.Listed.{Listed, list_on, room_on}
 use Rattle.mutation_queue.specs.Queue.{IsPut, listed_of}
 use Rattle.mutation_queue.proofs.Maps.{all_listed, other_listed, put_other}

@@ -1,6 +1,8 @@
 use Rattle.std.proofs.Common.{◌≡◌, ◌∙◌, ◌<◌, ◌≤◌, ℕ, List, length, ap, subst, sym}
 use Rattle.std.specs.List.{AllWithin}
-use Rattle.mutation_queue.specs.declared.numbered.Mutation.{Mutation}
+use Rattle.mt_values.specs.declared.change.Change.TheVariants.{Delete}
+use Rattle.mt_values.specs.declared.mutation.Mutation.{Mutation}
+use Rattle.mt_values.specs.Conditions.{Always}
 use Rattle.mutation_queue.specs.Listed.{Listed}
 use Rattle.mutation_queue.specs.Pending.{MayMerge}
 use Rattle.mutation_queue.proofs.Counts.{none_parts, same_counts, same_from_test, test_from_same}
@@ -20,5 +22,5 @@ returns c =
     let j_back = subst (λ (v : ℕ). AllWithin (λ (m : Mutation). v < m.number) xs j (length xs)) c.data_version-2.ensures c.count_upto-2.ensures.back in (
       λ yes. subst (λ (ms : List Mutation). MayMerge ms a b) is (none_parts xs a b i j c.count_upto.ensures.within c.count_upto-2.ensures.within i_front i_back j_front j_back (same_from_test i j yes)),
       λ may. test_from_same i j
-          (same_counts xs a b i j c.count_upto.ensures.within c.count_upto-2.ensures.within i_front i_back j_front j_back (record { number = 0 }) (subst (λ (ms : List Mutation). MayMerge ms a b) (sym is) may)),
+          (same_counts xs a b i j c.count_upto.ensures.within c.count_upto-2.ensures.within i_front i_back j_front j_back (record { number = 0; change = Delete Always }) (subst (λ (ms : List Mutation). MayMerge ms a b) (sym is) may)),
     )

@@ -1,6 +1,5 @@
-// Where a pair is looked for, and what is found.
+// Where parts are looked for.
 use mt_base::{Name, Partition};
-use part_set::Run;
 
 /// Where parts are looked for.
 #[derive(Clone, Copy)]
@@ -11,12 +10,4 @@ pub enum Scope<'a> {
     Table(&'a Name),
     /// In one partition of a table.
     Partition(&'a Name, Partition),
-}
-
-/// Parts of a partition of a table, which follow each other.
-#[derive(Clone, Copy)]
-pub struct Pick<'a> {
-    pub table: &'a Name,
-    pub partition: Partition,
-    pub run: Run,
 }
