@@ -35,7 +35,7 @@ module _ (names : Names) (h : History) (s : Stands names h) where
   one_block x y first second same apart partition low high own =
       let n = y.name.min_block in
       let test = has_block y.name.partition n in
-      let once = (s.stand y.table).once y.name.partition n (part_stands y second).least in
+      let once = (s.stand y.table).once y.name.partition n (part_stands y second).stands.least in
       let twice = two_count test (core_parts_of y.table s.parts) x y apart (of_table y.table s.parts x first same) (of_table y.table s.parts y second refl)
       (block_here x y.name.partition n partition low high) (block_here y y.name.partition n refl (omega arith) own) in
       omega (arith, once, twice)

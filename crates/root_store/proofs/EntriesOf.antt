@@ -15,25 +15,27 @@ use Rattle.table_core.proofs.MtModelHistories.{schema_more}
 use Rattle.table_core.proofs.MtModelTables.{itself_same, same_is}
 use Rattle.part_set.specs.declared.root_name.RootName.TheVariants as root
 use Rattle.part_set.specs.Visible.{HasTable}
-use Rattle.part_set.proofs.Items.{item_first, item_none}
-use Rattle.part_set.proofs.Orphans.{item_more}
+use Rattle.part_set.proofs.Items.{item_none}
 use Rattle.root_store.specs.Entries.{EntryHolds, HoldsEntry, create_of, entry_name}
-use Rattle.root_store.specs.Roots.{HasFolder, Stands}
+use Rattle.root_store.specs.Roots.{HasFolder, PlacedEntry, Stands}
+use Rattle.root_store.proofs.EntryPlaces.{placed_has}
+use Rattle.root_store.proofs.EntryReads.{entry_after}
 use Rattle.root_store.proofs.Items.{item_either}
 
 -- ---- a history
 
 -- the entry of the command that made a table
 pub record IsMadeIn (table : List ℕ) (schema : Schema) (h : History) : Type 0 where
-  pub entry : Entry
-  pub here : HasItem h entry
-  pub command_is : entry.command ≡ create_of table schema
+  pub placed : PlacedEntry h
+  pub command_is : placed.entry.command ≡ create_of table schema
 
 same_some : {X : Type 0} (x y : X) → Some x ≡ Some y → x ≡ y
 same_some x y e = cc
 
 made_more : (table : List ℕ) (schema : Schema) (e : Entry) (h : History) → IsMadeIn table schema h → IsMadeIn table schema (e ∷ h)
-made_more table schema e h m = record { entry = m.entry; here = item_more e m.entry h m.here; command_is = m.command_is }
+made_more table schema e h m =
+    let p = m.placed in
+    record { placed = record { before = e ∷ p.before; entry = p.entry; after = p.after; is = ap (λ (es : History). e ∷ es) p.is }; command_is = m.command_is }
 
 -- each table of a history was made by one of its commands
 pub made_in : (table : List ℕ) (schema : Schema) (h : History) → schema_of table h ≡ Some schema → IsMadeIn table schema h
@@ -46,8 +48,7 @@ made_in table schema (e ∷ h) is = by e.command refl is (made_in table schema h
       where
         named : (b : Bool) → same_bytes c.table table ≡ b → first_of (cond b (Some c.schema) None) (schema_of table h) ≡ Some schema → IsMadeIn table schema (e ∷ h)
         named true own one = record {
-          entry = e;
-          here = item_first e h;
+          placed = record { before = []; entry = e; after = h; is = refl };
           command_is = same ∙ (ap (λ (t : List ℕ). create_of t c.schema) (same_is c.table table own) ∙ ap (create_of table) (same_some c.schema schema one));
         }
         named false other later = made_more table schema e h (rest later)
@@ -78,9 +79,9 @@ entries_differ t u is = append_cancel_right t u (codes ".create") is
 abbrev pub KnownTable : List ℕ → History → Type 0
 KnownTable table h = (schema : Schema) × (schema_of table h ≡ Some schema)
 
-known_by : (h : History) (table : List ℕ) (e : Entry) (c : Command) → IsLegal h → HasItem h e → e.command ≡ c → entry_name c ≡ Some (create_name table) → KnownTable table h
-known_by h table e (command.Insert i) legal has is named = absurd cc
-known_by h table e (command.Create c) legal has is named =
+known_by : (h before : History) (table : List ℕ) (e : Entry) (c : Command) → IsLegal h → HasItem h e → e.command ≡ c → entry_name before c ≡ Some (create_name table) → KnownTable table h
+known_by h before table e (command.Insert i) legal has is named = absurd cc
+known_by h before table e (command.Create c) legal has is named =
     let own : c.table ≡ table = entries_differ c.table table (same_some (create_name c.table) (create_name table) named) in
     (c.schema, subst (λ (t : List ℕ). schema_of t h ≡ Some c.schema) own (makes h e c legal has is))
 
@@ -89,10 +90,13 @@ module _ (names : Names) (h : History) (s : Stands names h) where
   pub table_entry : (table : List ℕ) (schema : Schema) → schema_of table h ≡ Some schema → HasFolder names (create_name table) (EntryHolds table schema)
   table_entry table schema is =
       let m = made_in table schema h is in
-      subst (λ (c : Command). HasFolder names (create_name table) (HoldsEntry c)) m.command_is (s.entries m.entry (create_name table) m.here (ap entry_name m.command_is))
+      let p = m.placed in
+      let folder : HasFolder names (create_name table) (HoldsEntry p.before (create_of table schema)) =
+      subst (λ (c : Command). HasFolder names (create_name table) (HoldsEntry p.before c)) m.command_is (s.entries p (create_name table) (ap (entry_name p.before) m.command_is)) in
+      record { files = folder.files; there = folder.there; holds = entry_after p.before [] table schema folder.files folder.holds }
 
   -- and each entry is that of one
   pub entry_known : (table : List ℕ) → HasTable s.read table → KnownTable table h
   entry_known table has =
       let found = s.no_other (root.Create table) has tt in
-      known_by h table found.0 found.0.command s.legal found.1 refl found.2
+      known_by h found.0.before table found.0.entry found.0.entry.command s.legal (placed_has h found.0) refl found.1

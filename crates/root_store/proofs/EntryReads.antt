@@ -12,12 +12,14 @@ use Rattle.mt_values.specs.declared.statement.Statement.TheVariants as statement
 use Rattle.mt_values.specs.Grammar.{same_bytes}
 use Rattle.mt_values.specs.Script.{statements_of}
 use Rattle.table_core.specs.mt_model.declared.refusal.Refusal.{Refusal}
+use Rattle.mt_outside.specs.Files.{Files}
 use Rattle.table_core.specs.mt_model.Commands.{commands_of, create_commands, no_commands}
+use Rattle.table_core.specs.mt_model.History.{History}
 use Rattle.table_core.specs.mt_model.Queries.{query_of_select}
 use Rattle.table_core.specs.mt_model.declared.query.Query.{Query}
 use Rattle.table_core.specs.mt_model.Reply.{schema_of_text}
 use Rattle.table_core.proofs.MtModelTables.{itself_same, same_is}
-use Rattle.root_store.specs.Entries.{ReadsAs, create_of, schema_of_statement, schema_of_items, schema_of_entry, entry_text}
+use Rattle.root_store.specs.Entries.{HoldsEntry, ReadsAs, create_of, schema_of_statement, schema_of_items, schema_of_entry, entry_text}
 
 abbrev Item : Type 0
 Item = Result Statement Cause
@@ -32,7 +34,7 @@ one_given : (a b : Command) → ◌≡◌ {A = Commands} (Ok (a ∷ [])) (Ok (b 
 one_given a b is = cc
 
 -- a text reads as one command
-pub one_read : (text : List ℕ) (a b : Command) → ReadsAs text a → ReadsAs text b → a ≡ b
+pub one_read : (text : List ℕ) (a b : Command) → ReadsAs [] text a → ReadsAs [] text b → a ≡ b
 one_read text a b x y =
     let same : x.statement ≡ y.statement = one_item x.statement y.statement (sym x.alone ∙ y.alone) in
     one_given a b (sym x.gives ∙ (ap (commands_of []) same ∙ y.gives))
@@ -41,8 +43,27 @@ one_create : (c d : Create) → command.Create c ≡ command.Create d → c ≡ 
 one_create c d is = cc
 
 -- so it gives one schema
-pub one_schema : (text table : List ℕ) (a b : Schema) → ReadsAs text (create_of table a) → ReadsAs text (create_of table b) → a ≡ b
+pub one_schema : (text table : List ℕ) (a b : Schema) → ReadsAs [] text (create_of table a) → ReadsAs [] text (create_of table b) → a ≡ b
 one_schema text table a b x y = ap (λ (c : Create). c.schema) (one_create (record { table = table; schema = a }) (record { table = table; schema = b }) (one_read text (create_of table a) (create_of table b) x y))
+
+-- a statement with an entry that makes a table does so after any entries
+makes_after : (before after : History) (text table : List ℕ) (schema : Schema) (s : Statement) → entry_text s ≡ Some text → commands_of before s ≡ Ok (create_of table schema ∷ []) → commands_of after s ≡ Ok (create_of table schema ∷ [])
+makes_after before after text table schema (statement.Create c) spelled is = is
+makes_after before after text table schema (statement.Insert i) spelled is = absurd cc
+makes_after before after text table schema (statement.Select s) spelled is = absurd cc
+makes_after before after text table schema (statement.Explain s) spelled is = absurd cc
+makes_after before after text table schema (statement.Optimize o) spelled is = absurd cc
+
+-- so the entry of a table is that after any entries
+pub entry_after : (before after : History) (table : List ℕ) (schema : Schema) (files : Files) → HoldsEntry before (create_of table schema) files → HoldsEntry after (create_of table schema) files
+entry_after before after table schema files e =
+    let r = e.reads in
+    record {
+      text = e.text;
+      few = e.few;
+      bytes = e.bytes;
+      reads = record { statement = r.statement; alone = r.alone; spelled = r.spelled; gives = makes_after before after e.text table schema r.statement r.spelled r.gives };
+    }
 
 -- ---- the schema that is found
 
@@ -69,7 +90,7 @@ statement_gives table text schema (statement.Create c) is = by (same_bytes c.tab
     by true false same other none = absurd cc
     by false b other spelled none = absurd cc
 
-items_read : (table text : List ℕ) (schema : Schema) (items : List Item) → statements_of (text ++ codes ";") ≡ items → schema_of_items table text items ≡ Some schema → ReadsAs text (create_of table schema)
+items_read : (table text : List ℕ) (schema : Schema) (items : List Item) → statements_of (text ++ codes ";") ≡ items → schema_of_items table text items ≡ Some schema → ReadsAs [] text (create_of table schema)
 items_read table text schema [] are is = absurd cc
 items_read table text schema (Err why ∷ items) are is = absurd cc
 items_read table text schema (Ok s ∷ item ∷ items) are is = absurd cc
@@ -78,7 +99,7 @@ items_read table text schema (Ok s ∷ []) are is =
     record { statement = s; alone = are; spelled = found.1; gives = found.0 }
 
 -- the text of an entry in which a schema is found reads as the CREATE of the table
-pub reads_as : (table text : List ℕ) (schema : Schema) → schema_of_entry table text ≡ Some schema → ReadsAs text (create_of table schema)
+pub reads_as : (table text : List ℕ) (schema : Schema) → schema_of_entry table text ≡ Some schema → ReadsAs [] text (create_of table schema)
 reads_as table text schema is = items_read table text schema (statements_of (text ++ codes ";")) refl is
 
 no_create : (r : Result Query Refusal) (c : Command) → no_commands r ≡ Ok (c ∷ []) → ⊥
@@ -105,5 +126,5 @@ given_by table text schema (statement.Explain s) spelled is = absurd (no_create 
 given_by table text schema (statement.Optimize o) spelled is = absurd cc
 
 -- and one that reads so has the schema
-pub found_as : (table text : List ℕ) (schema : Schema) → ReadsAs text (create_of table schema) → schema_of_entry table text ≡ Some schema
+pub found_as : (table text : List ℕ) (schema : Schema) → ReadsAs [] text (create_of table schema) → schema_of_entry table text ≡ Some schema
 found_as table text schema reads = ap (schema_of_items table text) reads.alone ∙ given_by table text schema reads.statement reads.spelled reads.gives

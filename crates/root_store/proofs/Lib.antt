@@ -5,6 +5,7 @@ pub mod Counted
 pub mod CrashMarks
 pub mod CrashOrder
 pub mod EntriesOf
+pub mod EntryPlaces
 pub mod EntryReads
 pub mod Fitting
 pub mod InOrder

@@ -1,5 +1,5 @@
 -- A root that stands for a history has no damaged file.
-use Rattle.std.proofs.Common.{◌≡◌, ℕ, List, ◌++◌, Option, Some, None, length, refl, sym, ap, ◌∙◌, subst, inl, inr, arith, codes, length-append}
+use Rattle.std.proofs.Common.{[], ◌≡◌, ℕ, List, ◌++◌, Option, Some, None, length, refl, sym, ap, ◌∙◌, subst, inl, inr, arith, codes, length-append}
 use Rattle.std.proofs.lemmas.List.Elements.{All-contains}
 use Rattle.std.specs.Int.{w32, to_le_bytes}
 use Rattle.std.specs.List.{Contains as HasItem}
@@ -61,7 +61,7 @@ same_some x y e = cc
 pub entry_is_one : (table : List ℕ) (a b : Schema) (files : Files) → EntryHolds table a files → EntryHolds table b files → a ≡ b
 entry_is_one table a b files x y =
     let texts : x.text ≡ y.text = text_is_one x.text y.text (sym x.bytes ∙ y.bytes) in
-    one_schema y.text table a b (subst (λ (t : List ℕ). ReadsAs t (create_of table a)) texts x.reads) y.reads
+    one_schema y.text table a b (subst (λ (t : List ℕ). ReadsAs [] t (create_of table a)) texts x.reads) y.reads
 
 -- so do two that have one name
 pub folders_agree : (names : Names) (name table : List ℕ) (a b : Schema) → HasFolder names name (EntryHolds table a) → HasFolder names name (EntryHolds table b) → a ≡ b

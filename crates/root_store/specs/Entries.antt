@@ -15,6 +15,7 @@ use Rattle.mt_values.specs.RootNames.{create_name}
 use Rattle.mt_values.specs.Script.{statements_of}
 use Rattle.mt_outside.specs.Files.{Files, bytes_of}
 use Rattle.table_core.specs.mt_model.Commands.{commands_of}
+use Rattle.table_core.specs.mt_model.History.{History}
 use Rattle.table_core.specs.mt_model.Reply.{schema_of_text}
 
 -- the text of a statement that has an entry, from its first token up to its semicolon (docs/formats.md, "Entries")
@@ -46,38 +47,38 @@ schema_of_items table text (Ok s ∷ item ∷ items) = None
 abbrev pub schema_of_entry : List ℕ → List ℕ → Option Schema
 schema_of_entry table text = schema_of_items table text (statements_of (text ++ codes ";"))
 
--- A text reads as a command: the text and a semicolon are one statement, whose own text is this one, and which gives this command and no
--- other (docs/formats.md, "Entries").
-pub record ReadsAs (text : List ℕ) (command : Command) : Type 0 where
+-- A text reads as a command that comes after these entries: the text and a semicolon are one statement, whose own text is this one, and
+-- which gives there this command and no other (docs/formats.md, "Entries").
+pub record ReadsAs (before : History) (text : List ℕ) (command : Command) : Type 0 where
   pub statement : Statement
   pub alone : statements_of (text ++ codes ";") ≡ Ok statement ∷ []
   pub spelled : entry_text statement ≡ Some text
-  pub gives : commands_of [] statement ≡ Ok (command ∷ [])
+  pub gives : commands_of before statement ≡ Ok (command ∷ [])
 
--- bytes are the entry of a command: those of a text that reads as it, and whose length fits the number before it
-pub record IsEntryFor (command : Command) (entry : List ℕ) : Type 0 where
+-- bytes are the entry of a command after these entries: those of a text that reads as it, and whose length fits the number before it
+pub record IsEntryFor (before : History) (command : Command) (entry : List ℕ) : Type 0 where
   pub text : List ℕ
   pub few : length text < 2 ^ 32
   pub bytes : entry ≡ entry_bytes sha256 text
-  pub reads : ReadsAs text command
+  pub reads : ReadsAs before text command
 
--- a folder holds the entry of a command (docs/formats.md, "Entries")
-abbrev pub HoldsEntry : Command → Files → Type 0
-HoldsEntry command files = IsEntryFor command (bytes_of file.Entry files)
+-- a folder holds the entry of a command after these entries (docs/formats.md, "Entries")
+abbrev pub HoldsEntry : History → Command → Files → Type 0
+HoldsEntry before command files = IsEntryFor before command (bytes_of file.Entry files)
 
--- the name under which a root has the entry of a command: a CREATE's is that of its table, and an INSERT has none
-abbrev pub entry_name : Command → Option (List ℕ)
-entry_name (command.Create c) = Some (create_name c.table)
-entry_name (command.Insert i) = None
+-- the name under which a root has the entry of a command after these entries: a CREATE's is that of its table, and an INSERT has none
+abbrev pub entry_name : History → Command → Option (List ℕ)
+entry_name before (command.Create c) = Some (create_name c.table)
+entry_name before (command.Insert i) = None
 
 -- the command that makes a table
 abbrev pub create_of : List ℕ → Schema → Command
 create_of table schema = command.Create (record { table = table; schema = schema })
 
--- bytes are the entry of a table with this schema: that of its CREATE
+-- bytes are the entry of a table with this schema: that of its CREATE, which reads alike after all entries
 abbrev pub IsEntryWith : List ℕ → Schema → List ℕ → Type 0
-IsEntryWith table schema entry = IsEntryFor (create_of table schema) entry
+IsEntryWith table schema entry = IsEntryFor [] (create_of table schema) entry
 
 -- a folder holds it
 abbrev pub EntryHolds : List ℕ → Schema → Files → Type 0
-EntryHolds table schema files = HoldsEntry (create_of table schema) files
+EntryHolds table schema files = HoldsEntry [] (create_of table schema) files

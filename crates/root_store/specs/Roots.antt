@@ -1,5 +1,5 @@
 -- Which roots stand for a history (docs/crashes.md, "Roots").
-use Rattle.std.specs.Prelude.{◌≡◌, ◌↔◌, ℕ, List, map, All, Some, None}
+use Rattle.std.specs.Prelude.{◌≡◌, ◌↔◌, ℕ, List, ◌∷◌, ◌++◌, map, All, Some, None}
 use Rattle.std.specs.List.{Contains as HasItem}
 use Rattle.mt_values.specs.declared.command.Entry.{Entry}
 use Rattle.mt_values.specs.declared.schema.Schema.{Schema}
@@ -37,21 +37,29 @@ pub record AreNamesRead (names : Names) (read : List RootName) : Type 0 where
   pub sound : All IsRootName read
   pub spelled : map root_text read ≡ map (λ (n : List ℕ × Files). n.0) names
 
+-- an entry of a history, with those before it and after it
+pub record PlacedEntry (h : History) : Type 0 where
+  pub before : History
+  pub entry : Entry
+  pub after : History
+  pub is : h ≡ before ++ entry ∷ after
+
 -- a name that is the name of an entry
 abbrev pub IsOfEntry : RootName → Type 0
 IsOfEntry (root.Create table) = Unit {0}
 IsOfEntry (root.Part part) = ⊥
 
 -- The names of a root, with their files, stand for a history (docs/crashes.md, "Roots"). Each name is one of the grammar, and none is of
--- a mutated part. The entries are exactly those of the history's commands that have one, each of which reads as its command. The visible
--- parts hold rows with which they stand for the history.
+-- a mutated part. The entries are exactly those of the history's commands that have one, each of which reads as its command where that
+-- stands. The visible parts hold rows with which they stand for the history.
 pub record Stands (names : Names) (h : History) : Type 0 where
   pub legal : IsLegal h
   pub read : List RootName
   pub are : AreNamesRead names read
   pub unmutated : (part : TablePart) → HasPart read part → part.name.mutation ≡ None
-  pub entries : (e : Entry) (name : List ℕ) → HasItem h e → entry_name e.command ≡ Some name → HasFolder names name (HoldsEntry e.command)
-  pub no_other : (n : RootName) → HasItem read n → IsOfEntry n → (e : Entry) × HasItem h e × (entry_name e.command ≡ Some (root_text n))
+  pub entries : (p : PlacedEntry h) (name : List ℕ) → entry_name p.before p.entry.command ≡ Some name
+      → HasFolder names name (HoldsEntry p.before p.entry.command)
+  pub no_other : (n : RootName) → HasItem read n → IsOfEntry n → (p : PlacedEntry h) × (entry_name p.before p.entry.command ≡ Some (root_text n))
   pub parts : List CorePart
   pub visible : (part : TablePart) → IsVisible read part ↔ HasItem (map named parts) part
   pub stand : PartsStand parts h

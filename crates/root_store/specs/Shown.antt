@@ -30,10 +30,19 @@ pub record AreShown {F : Type 0} (store : CoreStore F) (names : Names) : Type 0 
   pub are : AreNamesRead names read
   pub parts : (table : List ℕ) (name : PartName) → IsVisible read (part_called table name) ↔ HasName (parts_of store.set table) name
 
--- each part of the greatest level that the store has is visible among the names
+-- a part of the table is visible among the names that has the partition, the blocks and the level of this name
+pub record LevelIsShown (names : Names) (table : List ℕ) (name : PartName) : Type 0 where
+  pub one : PartName
+  pub shown : IsShown names (part_called table one)
+  pub partition : one.partition ≡ name.partition
+  pub min_block : one.min_block ≡ name.min_block
+  pub max_block : one.max_block ≡ name.max_block
+  pub level : one.level ≡ name.level
+
+-- for each part of the greatest level that the store has, one of that level and those blocks is visible among the names
 abbrev pub GreatestAreShown : {F : Type 0} → CoreStore F → Names → Type 0
 GreatestAreShown store names =
-    (table : List ℕ) (name : PartName) → HasName (parts_of store.set table) name → level_limit ≤ name.level → IsShown names (part_called table name)
+    (table : List ℕ) (name : PartName) → HasName (parts_of store.set table) name → level_limit ≤ name.level → LevelIsShown names table name
 
 -- whatever a crash now leaves of the disk, the visible parts among its names are exactly the store's
 abbrev pub ImagesShow : {F : Type 0} → Option Told → ℕ → CoreStore F → Type 0

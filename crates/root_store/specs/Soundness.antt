@@ -60,9 +60,10 @@ NamesFitUnlessRisen failed told store = failed ≡ store.opened → ForSome told
 abbrev pub AreShownUnlessRisen : {F : Type 0} → ℕ → Option Told → CoreStore F → Type 0
 AreShownUnlessRisen failed told store = failed ≡ store.opened → ForSome told (λ (t : Told). AreShown store (names_of t))
 
--- A store that turns may follow: as long as no call of the disk failed since opening the root has no name but the store's, and its visible
--- parts are exactly the store's. Whatever failed, each part of the greatest level that the store has is visible. The store is sound, and the
--- disk's count of faults at opening is at most the one now, and below the end of its type.
+-- A store that turns may follow: as long as no call of the disk failed since opening each name of the root is the entry of a table or a part
+-- of one whose name ends by the number that the table drew last, and the visible parts are exactly the store's. Whatever failed, for each part
+-- of the greatest level that the store has one of that level and those blocks is visible. The store is sound, and the disk's count of faults
+-- at opening is at most the one now, and below the end of its type.
 pub record IsReady {F : Type 0} (failed : ℕ) (told : Option Told) (store : CoreStore F) : Type 0 where
   pub names : NamesFitUnlessRisen failed told store
   pub shown : AreShownUnlessRisen failed told store
