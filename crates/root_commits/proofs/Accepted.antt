@@ -15,6 +15,7 @@ use Rattle.mt_values.specs.Grammar.{same_bytes}
 use Rattle.mt_values.specs.Grid.{Grid}
 use Rattle.mt_values.specs.Values.{Row}
 use Rattle.mt_outside.specs.Files.{Files}
+use Rattle.root_store.specs.durable_commit.Commits.{entry_of}
 use Rattle.root_store.specs.mt_model.History.{History, IsInsertInto, IsTableSchema, creates, entered, schema_of}
 use Rattle.root_store.specs.mt_model.Numbers.{numbered}
 use Rattle.root_store.proofs.MtModelTables.{itself_same}
@@ -27,7 +28,6 @@ use Rattle.root_store.specs.part_set.Sets as sets
 use Rattle.root_store.specs.part_history.declared.part.CorePart.{CorePart}
 use Rattle.root_store.specs.part_history.Entered.{part_of_insert}
 use Rattle.root_store.specs.part_history.Parts.{AreInBlockOrder, core_parts_of}
-use Rattle.root_store.specs.table_core.declared.event.Accept.TheVariants as accept
 use Rattle.root_store.specs.table_core.Core.{Core}
 use Rattle.root_store.specs.table_core.Steps.{AddsPart}
 use Rattle.root_store.proofs.TableCoreStepping.{parts_added_apart}
@@ -37,7 +37,7 @@ use Rattle.root_store.specs.Cores.{ShowsCore, ShowsParts}
 use Rattle.root_store.specs.Stores.{core_parts, fresh_table, table_at}
 use Rattle.root_store.proofs.InOrder.{core_order}
 use Rattle.root_commits.specs.Commits.{EntersSealed, EntersTable, IsSealedOf, SameStore, insert_into, insert_of_block, part_rows, partition_of_block}
-use Rattle.root_commits.specs.Events.{IsAccepted, accept_of_block}
+use Rattle.root_commits.specs.Events.{IsAccepted}
 use Rattle.root_commits.proofs.Entering.{stands_created}
 use Rattle.root_commits.proofs.Inserted.{hold_inserted, parts_inserted, stands_inserted}
 use Rattle.root_commits.proofs.SameStores.{stands_same}
@@ -103,7 +103,7 @@ module _ {F : Type 0} (files_of : F → Option Files) where
     none_at u none (inl same) = subst (λ (v : List ℕ). core_parts_of v core.parts ≡ []) same (s.no_other c.table a.absent)
     none_at u none (inr other) = s.no_other u (sym other.1 ∙ none)
 
-    pub create_accepted : IsTableSchema c.schema → length old.tables.entries < 64 → IsAccepted files_of core (accept.Create session c) new
+    pub create_accepted : IsTableSchema c.schema → length old.tables.entries < 64 → IsAccepted files_of core (entry_of session (command.Create c)) new
     create_accepted schema few =
         let absent : schema_of c.table core.history ≡ None = sym (s.stands.tables c.table) ∙ ap (option_map (λ (x : Table). x.schema)) a.absent in
         let room : creates core.history < 65536 = omega (arith, few, s.stands.count) in
@@ -241,7 +241,7 @@ module _ {F : Type 0} (files_of : F → Option Files) (core : Core) (old new : C
   one_schema : (x y : Schema) → Some x ≡ Some y → x ≡ y
   one_schema x y same = cc
 
-  pub insert_accepted : t.drawn < 4294967295 → IsAccepted files_of core (accept_of_block session table t.schema block) new
+  pub insert_accepted : t.drawn < 4294967295 → IsAccepted files_of core (entry_of session (insert_of_block table (partition_of_block t.schema block) block)) new
   insert_accepted small =
       let known : schema_of table h ≡ Some t.schema = sym (s.stands.tables table) ∙ ap (option_map (λ (x : Table). x.schema)) a.enters.there in
       let drawn = s.stands.drawn table t a.enters.there in

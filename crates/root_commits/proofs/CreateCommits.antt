@@ -4,12 +4,14 @@ use Rattle.std.specs.List.{All}
 use Rattle.std.specs.Option.{ForSome}
 use Rattle.std.specs.Prelude.{OnOk}
 use Rattle.std.specs.Result.{MatchResult}
+use Rattle.mt_values.specs.declared.command.Command.TheVariants as command
 use Rattle.mt_values.specs.declared.command.Create.{Create}
 use Rattle.mt_values.specs.Annals as keeper
 use Rattle.mt_values.specs.RootNames.{create_name}
 use Rattle.mt_outside.specs.Disk.{names_of}
 use Rattle.mt_outside.specs.Files.{Files}
 use Rattle.root_store.specs.durable_commit.declared.causes.Refused.{Refused}
+use Rattle.root_store.specs.durable_commit.Commits.{entry_of}
 use Rattle.root_store.specs.durable_commit.Publications.{IsPublished, IsUnsettled, Storage}
 use Rattle.root_store.specs.durable_commit.stage_dir.Stages.{AreSealed, Filled}
 use Rattle.root_store.specs.mt_model.History.{History}
@@ -17,7 +19,6 @@ use Rattle.root_store.specs.part_reader.declared.reading.Part.{Part}
 use Rattle.root_store.specs.part_set.declared.kept.Kept.{Kept}
 use Rattle.root_store.specs.part_set.declared.set.PartSet.{PartSet}
 use Rattle.root_store.specs.part_set.Sets.{parts_of}
-use Rattle.root_store.specs.table_core.declared.event.Accept.TheVariants as accept
 use Rattle.root_store.specs.table_core.Core.{Core}
 use Rattle.root_store.specs.declared.store.CoreStore.{CoreStore}
 use Rattle.root_store.specs.Cores.{ShowsCore}
@@ -120,7 +121,7 @@ module _ {F : Type 0} (session : ℕ) (create : Create) (entry : Filled) (was no
   pub later : (files_of : F → Option Files) → shown ≡ None → Enters was.store now.store → (h : History) → CoreStands files_of h was.store → CoreStands files_of (with_entry (publication_of_create session create entry) h) now.store
   later files_of none e h stands = stands_created files_of h was.store now.store session create stands e from.schema (few none)
 
-  pub accepted : (files_of : F → Option Files) → shown ≡ None → Enters was.store now.store → (core : Core) → ShowsCore files_of was.store core → IsAccepted files_of core (accept.Create session create) now.store
+  pub accepted : (files_of : F → Option Files) → shown ≡ None → Enters was.store now.store → (core : Core) → ShowsCore files_of was.store core → IsAccepted files_of core (entry_of session (command.Create create)) now.store
   accepted files_of none e core s = create_accepted files_of core was.store now.store session create s e from.schema (few none)
 
 -- ---- the laws
@@ -150,7 +151,7 @@ module _ {F : Type 0} (files_of : F → Option Files) (session : ℕ) (create : 
   create_held sealed (Ok x) d held = held_made files_of was.store now.store create.table create.schema d.enters d.from.ready.sound held
   create_held sealed (Err r) d held = held_same files_of was.store now.store d.enters held
 
-  pub create_event : {T S : Type 0} (sealed : S) (result : Result T (Returned S)) → CommitsCreate session create entry was now sealed result → (core : Core) → ShowsCore files_of was.store core → OnOk result (IsAccepted files_of core (accept.Create session create) now.store)
+  pub create_event : {T S : Type 0} (sealed : S) (result : Result T (Returned S)) → CommitsCreate session create entry was now sealed result → (core : Core) → ShowsCore files_of was.store core → OnOk result (IsAccepted files_of core (entry_of session (command.Create create)) now.store)
   create_event sealed (Ok x) d core s =
       accepted session create entry was now d.from files_of (done_none (MayCreate create was) shown_against (publication_of_create session create entry) EntersNow was now sealed inside x d) d.enters core s
   create_event sealed (Err r) d core s = tt

@@ -36,11 +36,13 @@ use Rattle.root_store.specs.ByteOrder.{AreInByteOrder}
 use Rattle.root_store.proofs.PartHistoryNumbered.{legal_schema}
 use Rattle.root_commits.specs.Commits.{fresh_part}
 use Rattle.root_store.specs.Entries.{EntryHolds, HoldsEntry, entry_name}
-use Rattle.root_store.specs.Roots.{FolderHolds, HasFolder, IsOfEntry, PartIsThere, Stands, named}
+use Rattle.root_store.specs.Roots.{FolderHolds, HasFolder, IsOfEntry, PartIsThere, PlacedEntry, Stands, named}
 use Rattle.root_commits.proofs.Added.{are_read, folder_kept, new_folder, new_read, read_or_new, read_with, with_name}
 use Rattle.root_commits.proofs.Hiding.{covers_none, new_visible, none_covers, part_or_new, part_was, still_visible, table_hides_none, table_shows_none, was_visible}
 use Rattle.root_commits.proofs.Partitions.{may_spell}
 use Rattle.root_store.proofs.Clear.{of_table}
+use Rattle.root_store.proofs.EntryPlaces.{placed_on, placed_push}
+use Rattle.root_store.proofs.EntryReads.{entry_after}
 use Rattle.root_store.proofs.Fitting.{ends_by}
 use Rattle.root_store.proofs.Orphaned.{of_core}
 use Rattle.root_store.proofs.Tabled.{table_here}
@@ -64,23 +66,23 @@ module _ (names : Names) (h : History) (session : ℕ) (c : Create) (files : Fil
   made = read_with (root.Create c.table) s.read
 
   -- each command that has an entry has it
-  entry_there : (e : Entry) (name : List ℕ) → HasItem (h ++ last h session c ∷ []) e → entry_name e.command ≡ Some name → HasFolder (with_name names (create_name c.table) files) name (HoldsEntry e.command)
-  entry_there e name has is = elim (Contains-push_cases h (last h session c) e has) [
-    | inl old ↦ folder_kept names (create_name c.table) files name (HoldsEntry e.command) free (s.entries e name old is)
-    | inr new ↦ subst (λ (x : Entry). entry_name x.command ≡ Some name → HasFolder (with_name names (create_name c.table) files) name (HoldsEntry x.command)) new own is
+  entry_there : (p : PlacedEntry (h ++ last h session c ∷ [])) (name : List ℕ) → entry_name p.before p.entry.command ≡ Some name → HasFolder (with_name names (create_name c.table) files) name (HoldsEntry p.before p.entry.command)
+  entry_there p name is = elim (placed_push h (last h session c) p.before p.entry p.after p.is) [
+    | inl old ↦ folder_kept names (create_name c.table) files name (HoldsEntry p.before p.entry.command) free (s.entries (record { before = p.before; entry = p.entry; after = old.0; is = old.1 }) name is)
+    | inr new ↦ subst (λ (x : Entry). entry_name p.before x.command ≡ Some name → HasFolder (with_name names (create_name c.table) files) name (HoldsEntry p.before x.command)) new own is
   ]
     where
-      own : Some (create_name c.table) ≡ Some name → HasFolder (with_name names (create_name c.table) files) name (EntryHolds c.table c.schema)
+      own : Some (create_name c.table) ≡ Some name → HasFolder (with_name names (create_name c.table) files) name (HoldsEntry p.before (command.Create c))
       own named =
           let same : create_name c.table ≡ name = cc in
-          subst (λ (n : List ℕ). HasFolder (with_name names (create_name c.table) files) n (EntryHolds c.table c.schema)) same
-          (record { files = files; there = new_folder names (create_name c.table) files; holds = holds })
+          subst (λ (n : List ℕ). HasFolder (with_name names (create_name c.table) files) n (HoldsEntry p.before (command.Create c))) same
+          (record { files = files; there = new_folder names (create_name c.table) files; holds = entry_after [] p.before c.table c.schema files holds })
 
   -- and no other name is an entry
-  entry_of_one : (n : RootName) → HasItem made n → IsOfEntry n → (e : Entry) × HasItem (h ++ last h session c ∷ []) e × (entry_name e.command ≡ Some (root_text n))
+  entry_of_one : (n : RootName) → HasItem made n → IsOfEntry n → (p : PlacedEntry (h ++ last h session c ∷ [])) × (entry_name p.before p.entry.command ≡ Some (root_text n))
   entry_of_one n has is = elim (read_or_new (root.Create c.table) s.read n has) [
-    | inl old ↦ (let known = s.no_other n old is in (known.0, Contains-append_left h (last h session c ∷ []) known.0 known.1, known.2))
-    | inr new ↦ (last h session c, Contains-push h (last h session c), ap (λ (x : RootName). Some (root_text x)) new)
+    | inl old ↦ (let known = s.no_other n old is in (placed_on h (last h session c ∷ []) known.0, known.1))
+    | inr new ↦ (record { before = h; entry = last h session c; after = []; is = refl }, ap (λ (x : RootName). Some (root_text x)) new)
   ]
 
   table_stands : creates h < 65536 → IsTableSchema c.schema → IsTrue (is_table c.table) → Stands (with_name names (create_name c.table) files) (h ++ last h session c ∷ [])
@@ -210,12 +212,12 @@ module _ (names : Names) (h : History) (session : ℕ) (i : Insert) (schema : Sc
       | inl old ↦ s.unmutated part old
       | inr same ↦ sym (ap (λ (p : TablePart). p.name.mutation) same)
     ];
-    entries = λ e name has named_is. elim (Contains-push_cases h entry e has) [
-      | inl old ↦ folder_kept names text files name (HoldsEntry e.command) free (s.entries e name old named_is)
-      | inr new_one ↦ absurd (no_entry name (ap (λ (x : Entry). entry_name x.command) new_one ∙ named_is))
+    entries = λ p name named_is. elim (placed_push h entry p.before p.entry p.after p.is) [
+      | inl old ↦ folder_kept names text files name (HoldsEntry p.before p.entry.command) free (s.entries (record { before = p.before; entry = p.entry; after = old.0; is = old.1 }) name named_is)
+      | inr new_one ↦ absurd (no_entry name (ap (λ (x : Entry). entry_name p.before x.command) new_one ∙ named_is))
     ];
     no_other = λ n has of_entry. elim (read_or_new (root.Part new) s.read n has) [
-      | inl old ↦ (let was = s.no_other n old of_entry in (was.0, Contains-append_left h (entry ∷ []) was.0 was.1, was.2))
+      | inl old ↦ (let was = s.no_other n old of_entry in (placed_on h (entry ∷ []) was.0, was.1))
       | inr same ↦ absurd (subst IsOfEntry (sym same) of_entry)
     ];
     parts = s.parts ++ core ∷ [];

@@ -138,7 +138,7 @@ module _ (names : Names) (h : History) (s : Stands names h) (new : TablePart) (r
       false≢true (sym gone ∙ stay)
 
   staying_uncovered : (p : CorePart) → HasItem s.parts p → stays p ≡ true → Covers new (named p) → ⊥
-  staying_uncovered p has stay covers = staying_apart p (sym covers.table) stay (covered_meets new (named p) (part_stands names h s p has).order covers)
+  staying_uncovered p has stay covers = staying_apart p (sym covers.table) stay (covered_meets new (named p) (part_stands names h s p has).stands.order covers)
 
   abbrev left : List CorePart
   left = filter stays s.parts
@@ -275,7 +275,7 @@ module _ (names : Names) (h : History) (s : Stands names h) (new : TablePart) (r
       | inl old ↦ s.unmutated part old
       | inr same ↦ ap (λ (p : TablePart). p.name.mutation) (sym same) ∙ plain
     ];
-    entries = λ e name has named_is. folder_kept names text files name (HoldsEntry e.command) free (s.entries e name has named_is);
+    entries = λ p name named_is. folder_kept names text files name (HoldsEntry p.before p.entry.command) free (s.entries p name named_is);
     no_other = λ n has of_entry. elim (read_or_new (root.Part new) s.read n has) [
       | inl old ↦ s.no_other n old of_entry
       | inr same ↦ absurd (subst IsOfEntry (sym same) of_entry)

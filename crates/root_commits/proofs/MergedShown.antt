@@ -28,6 +28,7 @@ use Rattle.root_store.specs.declared.store.CoreStore.{CoreStore}
 use Rattle.root_store.specs.Shown.{AreShown, GreatestAreShown, part_called}
 use Rattle.root_store.proofs.Items.{item_either, map_item, mapped}
 use Rattle.root_store.proofs.Readings.{name_read}
+use Rattle.root_store.proofs.Showing.{own_level}
 use Rattle.root_commits.specs.Merges.{EntersMerge, Merging, name_of_merge, sources_of}
 use Rattle.root_commits.proofs.Added.{are_read, new_read, with_name}
 use Rattle.root_commits.proofs.Hiding.{MayReplace, covered_meets, hides, names_with, new_visible, not_covered, not_there, part_or_new, still_visible, was_visible}
@@ -116,14 +117,14 @@ module _ {F : Type 0} (store : CoreStore F) (m : Merging) (ordered : IsInBlockOr
         pub greatest_merged : name.level ≤ 4294967295 → GreatestAreShown store (with_name names text files)
         greatest_merged low = λ u n has greatest.
             let was = (s.parts u n).1 has in
-            record {
+            own_level (with_name names text files) u n (record {
               read = names_with s.read new;
               are = are_read (root.Part new) word names files s.read s.are;
               visible = still_visible s.read new (part_called u n) was (λ covers.
                   let order = (All-contains IsRootName s.read (root.Part (part_called u n)) s.are.sound was.here).1.order in
                   let less = (may_replace.within (part_called u n) was (sym covers.table) (covered_meets new (part_called u n) order covers)).1 in
                   absurd (omega (arith, less, greatest, low)));
-            }
+            })
 
         module _ {files_of : F → Option Files} (now : CoreStore F) (a : EntersMerge files_of m name store now) where
           abbrev kept : Kept (Part F)

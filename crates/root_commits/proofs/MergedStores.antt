@@ -29,7 +29,7 @@ use Rattle.root_store.specs.part_history.declared.part.CorePart.{CorePart}
 use Rattle.root_store.specs.part_history.Merges.{IsMergedPart, with_rows}
 use Rattle.root_store.specs.part_history.Parts.{AreInBlockOrder, PartStands, TableStands}
 use Rattle.root_store.proofs.PartHistoryMerging.{merged_stand}
-use Rattle.root_store.specs.table_core.declared.event.Merge.{Merge}
+use Rattle.root_store.specs.table_core.declared.event.Sources.{Sources}
 use Rattle.root_store.specs.table_core.declared.store.Run.{Run}
 use Rattle.root_store.specs.table_core.Store.{parts_below}
 use Rattle.root_store.proofs.TableCoreNeighbours.{sources_stand}
@@ -37,6 +37,7 @@ use Rattle.root_store.specs.declared.store.CoreStore.{CoreStore}
 use Rattle.root_store.specs.declared.store.Table.{Table}
 use Rattle.root_store.specs.Stores.{CoreStands, PartsAreThere, core_part, core_parts, table_at}
 use Rattle.root_store.proofs.InOrder.{core_order}
+use Rattle.root_commits.specs.Events.{merged_sources}
 use Rattle.root_commits.specs.Merges.{EntersMerge, HoldsMerge, Merging, SealsMerge, SealsMergeOfParts, name_of_merge, source_names, sources_of}
 use Rattle.root_commits.proofs.MergedNames.{run_own, run_partition}
 use Rattle.root_commits.proofs.SameStores.{no_mutation}
@@ -123,8 +124,8 @@ module _ {F : Type 0} (files_of : F → Option Files) (h : History) (store : Cor
   pub made : HoldsMerge t.schema is.inputs m
   made = is.holds
 
-  abbrev event : Merge
-  event = record { table = m.table; partition = m.partition; first = m.run.first; count = m.run.count; rows = made.rows }
+  abbrev meant : Sources
+  meant = merged_sources m
 
   abbrev all_parts : List CorePart
   all_parts = core_parts m.table (parts_of store.set m.table) was.rows
@@ -136,8 +137,8 @@ module _ {F : Type 0} (files_of : F → Option Files) (h : History) (store : Cor
   pub made_stands : PartStands h (record { table = m.table; name = name; rows = made.rows })
   unfolding made
   made_stands =
-      let among = run_among Hold event m.run refl refl (parts_of store.set m.table) was.rows was.hold in
-      let stand = sources_stand all_parts event place was.order (run_neighbours Hold event m.run refl refl (parts_of store.set m.table) was.rows was.hold run) refl refl in
+      let among = run_among Hold meant m.run refl refl (parts_of store.set m.table) was.rows was.hold in
+      let stand = sources_stand all_parts meant place was.order (run_neighbours Hold meant m.run refl refl (parts_of store.set m.table) was.rows was.hold run) refl refl in
       let new_part : CorePart = record { table = m.table; name = name; rows = made.rows } in
       let source_parts = core_parts m.table those run_rows in
       let are : all_parts ≡ stand.front ++ (source_parts ++ stand.back) = stand.parts_are ∙ ap (λ (ps : List CorePart). stand.front ++ (ps ++ stand.back)) among in
@@ -165,8 +166,8 @@ module _ {F : Type 0} (files_of : F → Option Files) (store : CoreStore F) (m :
   there_held : AllZip Held sealed_parts there_rows
   there_held = run_hold Held m.partition m.run (parts_of store.set m.table) there.rows there.hold
 
-  abbrev meant : Merge
-  meant = record { table = m.table; partition = m.partition; first = m.run.first; count = m.run.count; rows = [] }
+  abbrev there_meant : Sources
+  there_meant = merged_sources m
 
   abbrev there_parts : List CorePart
   there_parts = core_parts m.table (parts_of store.set m.table) there.rows
@@ -176,8 +177,8 @@ module _ {F : Type 0} (files_of : F → Option Files) (store : CoreStore F) (m :
 
   each_there : All (PartStands h) (core_parts m.table sealed_parts there_rows)
   each_there =
-      let among = run_among Held meant m.run refl refl (parts_of store.set m.table) there.rows there.hold in
-      let stand = sources_stand there_parts meant there_place there.order (run_neighbours Held meant m.run refl refl (parts_of store.set m.table) there.rows there.hold run) refl refl in
+      let among = run_among Held there_meant m.run refl refl (parts_of store.set m.table) there.rows there.hold in
+      let stand = sources_stand there_parts there_meant there_place there.order (run_neighbours Held there_meant m.run refl refl (parts_of store.set m.table) there.rows there.hold run) refl refl in
       let are : there_parts ≡ stand.front ++ (core_parts m.table sealed_parts there_rows ++ stand.back) = stand.parts_are ∙ ap (λ (ps : List CorePart). stand.front ++ (ps ++ stand.back)) among in
       middle_of (PartStands h) stand.front (core_parts m.table sealed_parts there_rows) stand.back (subst (All (PartStands h)) are there.stand.each)
 

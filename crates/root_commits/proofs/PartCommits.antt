@@ -31,9 +31,9 @@ use Rattle.root_store.specs.Stores.{CoreStands, table_at}
 use Rattle.root_store.proofs.Showing.{greatest_shown}
 use Rattle.root_commits.specs.declared.commits.Returned.{Returned}
 use Rattle.root_commits.specs.Commits.{EntersSealed, IsCause, IsSealedOf, SameStore, StandsWhere, cause_of, fresh_part, refuses_part}
-use Rattle.root_commits.specs.Events.{IsAccepted, accept_of_block}
+use Rattle.root_commits.specs.Events.{IsAccepted}
 use Rattle.root_commits.specs.Images.{LeavesAfter, LeavesOne}
-use Rattle.root_commits.specs.Publications.{Adding, Publishes, adding, partition_of_adding, publication_of_part, with_entry}
+use Rattle.root_commits.specs.Publications.{Adding, Publishes, adding, entry_of_adding, partition_of_adding, publication_of_part, with_entry}
 use Rattle.root_commits.specs.Turns.{CommitsPart, IsReadyRoot, MayAdd, Root}
 use Rattle.root_commits.proofs.Accepted.{insert_accepted}
 use Rattle.root_commits.proofs.CrashCommits.{grows_by_part, shows_by_part}
@@ -143,7 +143,7 @@ module _ {F : Type 0} (files_of : F → Option Files) (a : Adding) (was now : Ro
     pub later : Enters was.store now.store → (h : History) → CoreStands files_of h was.store → CoreStands files_of (with_entry (publication_of_part a) h) now.store
     later e h stands = stands_inserted files_of h was.store now.store a.session a.table a.kept a.block a.sealed.files a.loaded stands from.rows is e
 
-    pub accepted : shown ≡ None → Enters was.store now.store → (core : Core) → ShowsCore files_of was.store core → IsAccepted files_of core (accept_of_block a.session a.table a.kept.schema a.block) now.store
+    pub accepted : shown ≡ None → Enters was.store now.store → (core : Core) → ShowsCore files_of was.store core → IsAccepted files_of core (entry_of_adding a) now.store
     accepted none e core s = insert_accepted files_of core was.store now.store a.session a.table a.kept a.block a.sealed.files a.loaded s from.rows is e (small none)
 
   pub shows : shown ≡ None → Enters was.store now.store → (h : History) → CoreStands files_of h was.store → (files : Files) → Shows was.store (part_name a.table (part_text fresh)) files h now.store
@@ -183,7 +183,7 @@ module _ {F : Type 0} (files_of : F → Option Files) (a : Adding) (was now : Ro
     part_held sealed (Err r) d held = held_same files_of was.store now.store d.enters held
 
     pub part_event : {T S : Type 0} (sealed : S) (result : Result T (Returned S)) → CommitsPart files_of a was now sealed result → (core : Core) → ShowsCore files_of was.store core
-        → OnOk result (IsAccepted files_of core (accept_of_block a.session a.table a.kept.schema a.block) now.store)
+        → OnOk result (IsAccepted files_of core (entry_of_adding a) now.store)
     part_event sealed (Ok x) d core s =
         accepted files_of a was now d.from is (done_none (MayAdd a was) shown_against (publication_of_part a) EntersNow was now sealed inside x d) d.enters core s
     part_event sealed (Err r) d core s = tt

@@ -32,7 +32,7 @@ use Rattle.root_store.specs.part_history.declared.part.CorePart.{CorePart}
 use Rattle.root_store.specs.part_history.Merges.{MergeLeaves, names_of, with_rows}
 use Rattle.root_store.specs.part_name.Merged.{merged_of}
 use Rattle.root_store.specs.part_history.Parts.{AreInBlockOrder, PartStands, block_cmp, core_parts_of, has_block}
-use Rattle.root_store.specs.table_core.declared.event.Merge.{Merge}
+use Rattle.root_store.specs.table_core.declared.event.Sources.{Sources}
 use Rattle.root_store.specs.table_core.declared.store.Run.{Run}
 use Rattle.root_store.specs.table_core.Core.{Core}
 use Rattle.root_store.specs.table_core.Steps.{HasNeighbours, SwapsParts, sources_among}
@@ -44,7 +44,7 @@ use Rattle.root_store.specs.Cores.{ShowsCore, ShowsParts}
 use Rattle.root_store.specs.Stores.{PartsAreThere, core_part, core_parts, table_at}
 use Rattle.root_store.proofs.Clear.{block_here}
 use Rattle.root_store.proofs.Items.{one_counts}
-use Rattle.root_commits.specs.Events.{IsPut, put_of}
+use Rattle.root_commits.specs.Events.{IsPut, merged_sources}
 use Rattle.root_commits.specs.Merges.{EntersMerge, HoldsMerge, Merging, SealsMerge, name_of_merge, source_names, sources_of}
 use Rattle.root_commits.proofs.MergedNames.{run_spans}
 use Rattle.root_commits.proofs.MergedStores.{Rows, join_parts, join_rows, rows_of, stands_merged}
@@ -210,8 +210,8 @@ module _ {F : Type 0} (files_of : F → Option Files) (core : Core) (old new : C
   abbrev held : HoldsMerge t.schema is.inputs m
   held = is.holds
 
-  abbrev put : Merge
-  put = put_of m held.rows
+  abbrev run_sources : Sources
+  run_sources = merged_sources m
 
   abbrev all : List CorePart
   all = core_parts m.table ks there.rows
@@ -244,11 +244,11 @@ module _ {F : Type 0} (files_of : F → Option Files) (core : Core) (old new : C
   abbrev meant : List CorePart
   meant = core_parts m.table those shown_inputs
 
-  among : sources_among all put ≡ meant
-  among = run_among Holds put m.run refl refl ks there.rows there.hold
+  among : sources_among all run_sources ≡ meant
+  among = run_among Holds run_sources m.run refl refl ks there.rows there.hold
 
-  neighbours : HasNeighbours all put
-  neighbours = run_neighbours Holds put m.run refl refl ks there.rows there.hold run
+  neighbours : HasNeighbours all run_sources
+  neighbours = run_neighbours Holds run_sources m.run refl refl ks there.rows there.hold run
 
   order_all : AreInBlockOrder all
   order_all = order_same Holds m.table ks was.rows there.rows was.hold there.hold was.order
@@ -284,17 +284,17 @@ module _ {F : Type 0} (files_of : F → Option Files) (core : Core) (old new : C
       begun : Begins Holds m.table those inputs one
       begun = begins Holds m.table those inputs inputs_hold one first_there.1
 
-      among_was : sources_among (core_parts m.table ks was.rows) put ≡ core_parts m.table those inputs
-      among_was = run_among Holds put m.run refl refl ks was.rows was.hold
+      among_was : sources_among (core_parts m.table ks was.rows) run_sources ≡ core_parts m.table those inputs
+      among_was = run_among Holds run_sources m.run refl refl ks was.rows was.hold
 
       least : IsNumberOfInsert m.table one.name.partition one.name.min_block h
       least =
-          let standing = sources_stand (core_parts m.table ks was.rows) put (record { from = length (parts_below m.partition (core_parts m.table ks was.rows)) + m.run.first; count = m.run.count }) was.order (run_neighbours Holds put m.run refl refl ks was.rows was.hold run) refl refl in
+          let standing = sources_stand (core_parts m.table ks was.rows) run_sources (record { from = length (parts_below m.partition (core_parts m.table ks was.rows)) + m.run.first; count = m.run.count }) was.order (run_neighbours Holds run_sources m.run refl refl ks was.rows was.hold run) refl refl in
           let are = standing.parts_are ∙ ap (λ (ps : List CorePart). standing.front ++ (ps ++ standing.back)) (among_was ∙ begun.is) in
           let stands = All-contains (PartStands h) (core_parts m.table ks was.rows) (core_part m.table one begun.row) was.stand.each
           (subst (λ (ps : List CorePart). HasItem ps (core_part m.table one begun.row)) (sym are)
           (Contains-append_right standing.front ((core_part m.table one begun.row ∷ begun.rest) ++ standing.back) (core_part m.table one begun.row) (item_first (core_part m.table one begun.row) (begun.rest ++ standing.back)))) in
-          stands.least
+          stands.stands.least
 
   none_before : (xs : List CorePart) (row : List Row) (rest : List CorePart) → all ≡ xs ++ core_part m.table one row ∷ rest → count_by f xs ≡ 0
   none_before xs row rest are =
@@ -304,9 +304,9 @@ module _ {F : Type 0} (files_of : F → Option Files) (core : Core) (old new : C
       omega (arith, whole, some, total)
 
   -- the sources of the event are those of the store
-  meant_is : sources_among all put ≡ middle
+  meant_is : sources_among all run_sources ≡ middle
   meant_is =
-      let standing = sources_stand all put place order_all neighbours refl refl in
+      let standing = sources_stand all run_sources place order_all neighbours refl refl in
       let first = begins Holds m.table those split.inputs split.inputs_hold one first_there.1 in
       let second = begins Holds m.table those shown_inputs shown_hold one first_there.1 in
       let are : all ≡ front ++ core_part m.table one first.row ∷ (first.rest ++ back) = all_are ∙ ap (λ (ps : List CorePart). front ++ (ps ++ back)) first.is in
@@ -368,11 +368,11 @@ module _ {F : Type 0} (files_of : F → Option Files) (core : Core) (old new : C
         | inr other ↦ other
       ]
 
-  swaps : SwapsParts (sources_among (core_parts_of m.table core.parts) put) part core.parts next.parts
+  swaps : SwapsParts (sources_among (core_parts_of m.table core.parts) run_sources) part core.parts next.parts
   swaps = record {
     front = front;
     behind = back;
-    old_is = there.same ∙ (all_are ∙ ap (λ (ps : List CorePart). front ++ (ps ++ back)) (sym (ap (λ (ps : List CorePart). sources_among ps put) there.same ∙ meant_is)));
+    old_is = there.same ∙ (all_are ∙ ap (λ (ps : List CorePart). front ++ (ps ++ back)) (sym (ap (λ (ps : List CorePart). sources_among ps run_sources) there.same ∙ meant_is)));
     new_is = mine_now;
     others = other_now;
   }
@@ -382,10 +382,10 @@ module _ {F : Type 0} (files_of : F → Option Files) (core : Core) (old new : C
   known : schema_of m.table h ≡ Some t.schema
   known = sym (s.stands.tables m.table) ∙ ap (option_map (λ (x : Table). x.schema)) at
 
-  beside_is : sources_among (core_parts_of m.table core.parts) put ≡ meant
-  beside_is = ap (λ (ps : List CorePart). sources_among ps put) there.same ∙ among
+  beside_is : sources_among (core_parts_of m.table core.parts) run_sources ≡ meant
+  beside_is = ap (λ (ps : List CorePart). sources_among ps run_sources) there.same ∙ among
 
-  leaves : MergeLeaves h t.schema (sources_among (core_parts_of m.table core.parts) put) held.rows
+  leaves : MergeLeaves h t.schema (sources_among (core_parts_of m.table core.parts) run_sources) held.rows
   leaves = record {
     inputs = is.inputs;
     stand = subst (λ (ps : List CorePart). AllZip (λ (p : CorePart) (r : List Row). PartStands h (with_rows p r)) ps is.inputs) (sym beside_is)
@@ -440,10 +440,10 @@ module _ {F : Type 0} (files_of : F → Option Files) (core : Core) (old new : C
     rows = held.rows;
     name = name;
     next = next;
-    may = λ schema found has. subst (λ (x : Schema). MergeLeaves h x (sources_among (core_parts_of m.table core.parts) put) held.rows) (one_schema t.schema schema (sym known ∙ found)) leaves;
+    may = λ schema found has. subst (λ (x : Schema). MergeLeaves h x (sources_among (core_parts_of m.table core.parts) run_sources) held.rows) (one_schema t.schema schema (sym known ∙ found)) leaves;
     gives = record {
       there = ap is_some known;
-      neighbours = subst (λ (ps : List CorePart). HasNeighbours ps put) (sym there.same) neighbours;
+      neighbours = subst (λ (ps : List CorePart). HasNeighbours ps run_sources) (sym there.same) neighbours;
       named = ap (λ (ps : List CorePart). merged_of (names_of ps)) beside_is ∙ (ap merged_of (part_names Holds m.table those shown_inputs shown_hold) ∙ name_is);
       room = low;
       parts = swaps;

@@ -14,7 +14,7 @@ use Rattle.root_store.specs.part_set.Runs.{IsRun, parts_of_run}
 use Rattle.root_store.specs.part_history.declared.part.CorePart.{CorePart}
 use Rattle.root_store.specs.part_history.Merges.{names_of, with_rows}
 use Rattle.root_store.specs.part_history.Parts.{PartStands, parts_in}
-use Rattle.root_store.specs.table_core.declared.event.Merge.{Merge}
+use Rattle.root_store.specs.table_core.declared.event.Sources.{Sources}
 use Rattle.root_store.specs.table_core.Steps.{HasNeighbours, sources_among}
 use Rattle.root_store.specs.Stores.{core_part, core_parts}
 use Rattle.root_store.proofs.PartHistoryGrowing.{part_kept}
@@ -126,9 +126,9 @@ module _ {F : Type 0} (R : Kept (Part F) → List Row → Type 0) where
   parts_own P table (k ∷ ks) [] hold own = absurd hold
   parts_own P table (k ∷ ks) (r ∷ rows) hold own = (own.0, parts_own P table ks rows hold.1 own.1)
 
-  -- ---- as the event of a merge says them
+  -- ---- as the sources of a merge say them
 
-  module _ (e : Merge) (run : Run) (first_is : e.first ≡ run.first) (count_is : e.count ≡ run.count) (ks : List (Kept (Part F))) (rows : List (List Row)) (hold : AllZip R ks rows) where
+  module _ (e : Sources) (run : Run) (first_is : e.first ≡ run.first) (count_is : e.count ≡ run.count) (ks : List (Kept (Part F))) (rows : List (List Row)) (hold : AllZip R ks rows) where
     abbrev mine : List (Kept (Part F))
     mine = kept_in e.partition ks
 

@@ -33,6 +33,7 @@ use Rattle.root_store.specs.Shown.{AreShown, GreatestAreShown, part_called}
 use Rattle.root_store.specs.Soundness.{IsNameUnder, NamesFit}
 use Rattle.root_store.specs.Stores.{table_at}
 use Rattle.root_store.proofs.Items.{map_item, mapped}
+use Rattle.root_store.proofs.Showing.{own_level}
 use Rattle.root_commits.specs.Commits.{EntersPart, EntersTable, SameStore, fresh_part}
 use Rattle.root_commits.proofs.Added.{are_read, new_read, read_with, with_name}
 use Rattle.root_commits.proofs.FreeNames.{entry_is_no_part, parts_differ, put_told}
@@ -87,11 +88,12 @@ module _ {F : Type 0} (old : CoreStore F) (table : List ℕ) (word : IsTrue (is_
       same u = ap (λ (x : PartSet (Part F)). parts_of x u) a.set_is
 
   pub greatest_made : GreatestAreShown old (with_name names (create_name table) files)
-  greatest_made = λ u name has greatest. record {
-    read = read_with (root.Create table) s.read;
-    are = are_read (root.Create table) word names files s.read s.are;
-    visible = table_hides_none s.read table (part_called u name) ((s.parts u name).1 has);
-  }
+  greatest_made = λ u name has greatest.
+      own_level (with_name names (create_name table) files) u name (record {
+        read = read_with (root.Create table) s.read;
+        are = are_read (root.Create table) word names files s.read s.are;
+        visible = table_hides_none s.read table (part_called u name) ((s.parts u name).1 has);
+      })
 
 -- ---- a part more
 
@@ -136,7 +138,9 @@ module _ {F : Type 0} (old : CoreStore F) (table : List ℕ) (partition : Partit
     still part visible = still_visible s.read new_part part visible (covers_none s.read s.are.sound new_part n (omega arith) (omega arith) ends part visible.here)
 
     pub greatest_added : GreatestAreShown old (with_name names (part_name table (part_text fresh)) files)
-    greatest_added = λ u name has greatest. record { read = names_with s.read new_part; are = are; visible = still (part_called u name) ((s.parts u name).1 has) }
+    greatest_added = λ u name has greatest.
+        own_level (with_name names (part_name table (part_text fresh)) files) u name
+        (record { read = names_with s.read new_part; are = are; visible = still (part_called u name) ((s.parts u name).1 has) })
 
     module _ (new : CoreStore F) (part : Part F) (t : Table) (drawn : t.drawn ≡ n) (a : EntersPart table partition part t old new) where
       abbrev kept : Kept (Part F)

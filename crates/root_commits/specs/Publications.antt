@@ -46,6 +46,10 @@ adding session table t block sealed loaded = record { session = session; table =
 abbrev pub partition_of_adding : Adding → Partition
 partition_of_adding a = partition_of_block a.kept.schema a.block
 
+-- the entry of a block that is added
+abbrev pub entry_of_adding : Adding → Entry
+entry_of_adding a = entry_of a.session (insert_of_block a.table (partition_of_adding a) a.block)
+
 -- the entry of a CREATE, with its command
 abbrev pub publication_of_create : ℕ → Create → Filled → Publication
 publication_of_create session create sealed = publication (create_name create.table) sealed (Some (entry_of session (command.Create create)))
@@ -53,7 +57,7 @@ publication_of_create session create sealed = publication (create_name create.ta
 -- the part of a block, with its command
 abbrev pub publication_of_part : Adding → Publication
 publication_of_part a =
-    publication (part_name a.table (part_text (fresh_part (partition_of_adding a) (a.kept.drawn + 1)))) a.sealed (Some (entry_of a.session (insert_of_block a.table (partition_of_adding a) a.block)))
+    publication (part_name a.table (part_text (fresh_part (partition_of_adding a) (a.kept.drawn + 1)))) a.sealed (Some (entry_of_adding a))
 
 -- the part of a merge, under its name: no command
 abbrev pub publication_of_merge : Merging → PartName → Publication

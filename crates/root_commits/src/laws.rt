@@ -1,6 +1,7 @@
 // What follows of commits, what a crash leaves of a root, and how runs go on after it. Each function has an empty body and the law as its
 // contract.
 ghost use Rattle.std.specs.Prelude.{◌≡◌, ◌+◌, ℕ, List, OnOk, Option, Result, Some, length, map};
+ghost use Rattle.mt_values.specs.declared.command.Command.TheVariants as command;
 ghost use Rattle.mt_values.specs.declared.command.Create.{Create};
 ghost use Rattle.mt_values.specs.declared.annals.Noted.{Noted};
 ghost use Rattle.mt_values.specs.Annals as keeper;
@@ -16,6 +17,7 @@ ghost use Rattle.root_store.specs.Shown.{HasNoMark};
 ghost use Rattle.root_store.specs.Soundness.{HasSoundParts, RootStands};
 ghost use Rattle.root_store.specs.Stores.{CoreStands, table_at};
 ghost use Rattle.root_store.specs.declared.store.Table.{Table};
+ghost use Rattle.root_store.specs.durable_commit.Commits.{entry_of};
 ghost use Rattle.root_store.specs.durable_commit.stage_dir.Stages.{Filled};
 ghost use Rattle.root_store.specs.part_name.declared.part.PartName.{PartName};
 ghost use Rattle.root_store.specs.declared.store.CoreStore.{CoreStore};
@@ -23,12 +25,11 @@ ghost use Rattle.root_store.specs.part_set.Parts.{kept_in};
 ghost use Rattle.root_store.specs.part_set.Runs.{IsRun};
 ghost use Rattle.root_store.specs.part_set.Sets.{parts_of};
 ghost use Rattle.root_store.specs.table_core.Core.{Core};
-ghost use Rattle.root_store.specs.table_core.declared.event.Accept.TheVariants as accept;
 ghost use Rattle.root_commits.specs.Commits.{IsSealedEntry, IsSealedOf, SameStore, StandsWhere};
-ghost use Rattle.root_commits.specs.Events.{IsAccepted, IsPut, accept_of_block};
+ghost use Rattle.root_commits.specs.Events.{IsAccepted, IsPut};
 ghost use Rattle.root_commits.specs.Images.{LeavesAfter, LeavesOne};
 ghost use Rattle.root_commits.specs.Merges.{Merging, SealsForKept, SealsMerge, SealsMergeOfParts, SealsRows, source_names};
-ghost use Rattle.root_commits.specs.Publications.{Adding, publication_of_create, publication_of_part, with_entry};
+ghost use Rattle.root_commits.specs.Publications.{Adding, entry_of_adding, publication_of_create, publication_of_part, with_entry};
 ghost use Rattle.root_commits.specs.Turns.{CommitsCreate, CommitsMerge, CommitsPart, Root};
 ghost use Rattle.root_commits.specs.declared.commits.Returned.{Returned};
 
@@ -81,13 +82,12 @@ pub fn commits_are_events<F, T, S>()
         (was now : Root F) (sealed : S) (result : Result T (Returned S))
         → CommitsCreate session c entry was now sealed result
         → (core : Core) → ShowsCore files_of was.store core
-        → OnOk result (IsAccepted files_of core (accept.Create session c) now.store) }
+        → OnOk result (IsAccepted files_of core (entry_of session (command.Create c)) now.store) }
     ensures part { (files_of : F → Option Files) (a : Adding) (was now : Root F) (sealed : S)
         (result : Result T (Returned S)) → CommitsPart files_of a was now sealed result
         → IsSealedOf a.kept.schema a.block a.sealed.files a.loaded
         → (core : Core) → ShowsCore files_of was.store core
-        → OnOk result (IsAccepted files_of core
-        (accept_of_block a.session a.table a.kept.schema a.block) now.store) }
+        → OnOk result (IsAccepted files_of core (entry_of_adding a) now.store) }
     ensures merge { (files_of : F → Option Files) (m : Merging) (name : PartName) (was now : Root F)
         (sealed : S) (result : Result T (Returned S))
         → CommitsMerge files_of m name was now sealed result
