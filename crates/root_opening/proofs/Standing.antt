@@ -278,7 +278,7 @@ module _ {F : Type 0} (files_of : F → Option Files) (names : Names) (h : Histo
       upto (inr found) =
           let c = of_core names h s found.0 (subst (λ (r : List RootName). IsVisible r found.0) same_read found.1) in
           let stands = part_stands names h s c.core c.here in
-          let most = number_drawn c.core.table c.core.name.partition c.core.name.max_block h stands.greatest in
+          let most = number_drawn c.core.table c.core.name.partition c.core.name.max_block h stands.stands.greatest in
           let own : c.core.table ≡ table = ap (λ (p : TablePart). p.table) c.name_is ∙ found.2 in
           let block : c.core.name.max_block ≡ t.drawn = ap (λ (p : TablePart). p.name.max_block) c.name_is ∙ found.3 in
           let count : length (numbered c.core.table h) ≡ length (numbered table h) = ap (λ (x : List ℕ). length (numbered x h)) own in

@@ -9,7 +9,8 @@ use Rattle.root_store.specs.Soundness.{HasSoundParts, IsSoundStore, NamesFit}
 use Rattle.root_store.specs.Stores.{StoreOf}
 use Rattle.root_opening.specs.declared.opening.OpenFault.{OpenFault}
 
--- the store is what the told names make, the root has no name but the store's, and each part holds rows
+-- the store is what the told names make, each part holds rows, and each name is the entry of a table or a part of one whose name ends by
+-- the number that the table drew last
 pub record IsOpenedOf {F : Type 0} (files_of : F → Option Files) (store : CoreStore F) (told : Told) : Type 0 where
   pub store_of : StoreOf files_of (names_of told) store
   pub held : HasSoundParts files_of store
