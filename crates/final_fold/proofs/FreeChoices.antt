@@ -28,7 +28,7 @@ use Rattle.row_merge.proofs.RuleLawAlternating.{alternating_left}
 use Rattle.row_merge.proofs.RuleLawKept.{collapsing_keeps, versioned_keeps}
 use Rattle.row_merge.proofs.RuleLawPartlyRows.{merges_keep}
 use Rattle.row_merge.proofs.RuleLawSummed.{sums_at}
-use Rattle.row_merge.proofs.RuleLawWrapping.{integer_wrapped, number_as}
+use Rattle.mt_values.proofs.Wrapping.{integer_wrapped, number_as}
 use Rattle.final_fold.specs.Choices.{signs_of, sums_of}
 use Rattle.final_fold.specs.Keys.{is_of_key}
 use Rattle.final_fold.proofs.FoldedOnce.{Down, Up, as_many_signs, between, later_of_all, first_of_all}

@@ -1,5 +1,5 @@
 -- A run after a run, and after a crash.
-use Rattle.std.proofs.Common.{◌≡◌, ℕ, List, [], ◌∷◌, None, Some, false, length, map, refl, sym, ap, ◌∙◌, subst}
+use Rattle.std.proofs.Common.{◌≡◌, ℕ, List, [], ◌∷◌, ◌++◌, None, Some, false, length, map, refl, sym, ap, ◌∙◌, subst}
 use Rattle.std.proofs.lemmas.List.Elements.{All-nil}
 use Rattle.mt_values.specs.declared.annals.Noted.{Noted}
 use Rattle.mt_values.specs.declared.command.Entry.{Entry}
@@ -24,13 +24,17 @@ use Rattle.mt_program.specs.Worlds.{BeginsAfter, Starts, World}
 
 -- ---- an empty disk
 
+none_placed : (before : History) (e : Entry) (after : History) → [] ≡ before ++ e ∷ after → ⊥
+none_placed [] e after is = cc
+none_placed (b ∷ before) e after is = cc
+
 empty_root : Stands [] []
 empty_root = record {
   legal = tt;
   read = [];
   are = record { sound = All-nil IsRootName; spelled = refl };
   unmutated = λ part has. absurd (item_none (root_name.Part part) has);
-  entries = λ e name has is. absurd (item_none e has);
+  entries = λ p name is. absurd (none_placed p.before p.entry p.after p.is);
   no_other = λ n has of. absurd (item_none n has);
   parts = [];
   visible = λ part. (λ shown. absurd (item_none (root_name.Part part) shown.here), λ has. absurd (item_none part has));

@@ -1,7 +1,8 @@
 -- A store whose count of faults at opening is the one before the disk was started.
-use Rattle.std.proofs.Common.{◌≡◌, ◌+◌, ◌-◌, ◌<◌, ◌≤◌, ◌^◌, ℕ, Bool, true, List, map, [], Option, Some, Result, ap, sym, subst, ◌∙◌}
+use Rattle.std.proofs.Common.{◌≡◌, ◌+◌, ◌-◌, ◌<◌, ◌≤◌, ◌^◌, ℕ, Bool, true, List, map, [], Option, Some, Result, ap, refl, sym, subst, ◌∙◌}
 use Rattle.std.proofs.lemmas.List.Elements.{All-weaker}
 use Rattle.std.specs.Map.{keys_of}
+use Rattle.mt_base.specs.Limits.{level_limit}
 use Rattle.mt_outside.specs.Disk.{Image, IsStamped, Names, Survive, Told, names_of}
 use Rattle.mt_outside.specs.Files.{Files}
 use Rattle.mt_outside.proofs.Changes.{at_clock-none, before_clock-all}
@@ -62,7 +63,14 @@ module _ {F : Type 0} (store : CoreStore F) (opened : ℕ) where
   shown_reopened names s = record { read = s.read; are = s.are; parts = s.parts }
 
   greatest_reopened : (names : Names) → AreShown store names → GreatestAreShown (reopened store opened) names
-  greatest_reopened names s = λ table name has level. record { read = s.read; are = s.are; visible = (s.parts table name).1 has }
+  greatest_reopened names s = λ table name has level. record {
+    one = name;
+    shown = record { read = s.read; are = s.are; visible = (s.parts table name).1 has };
+    partition = refl;
+    min_block = refl;
+    max_block = refl;
+    level = refl;
+  }
 
   -- a root that was opened is ready for a turn
   pub ready_opened : (files_of : F → Option Files) (disk now : Option Told) (count failed : ℕ) → Opens files_of disk count store → now ≡ disk → opened ≤ failed → opened < 2 ^ 64 - 1 → IsReady failed now (reopened store opened)
@@ -147,9 +155,10 @@ script_as source had opened now after first start same is left =
 
 -- ---- at the end
 
--- a part of the greatest level that the store has is visible among the names
+-- where the store has a part of the greatest level, one of that level is visible among the names
 pub shows_full : {F : Type 0} (store : CoreStore F) (failed : ℕ) (told : Told) (disk : Option Told) → IsReady failed disk store → has_greatest store ≡ true → disk ≡ Some told → HasFullPart (names_of told)
 shows_full store failed told disk ready is there =
     let has = greatest_there store is in
-    let shown = ready.greatest told there has.table has.kept.name (name_here (parts_of store.set has.table) has.kept has.here) has.is in
-    record { read = shown.read; are = shown.are; part = part_called has.table has.kept.name; visible = shown.visible; full = has.is }
+    let found = ready.greatest told there has.table has.kept.name (name_here (parts_of store.set has.table) has.kept has.here) has.is in
+    let shown = found.shown in
+    record { read = shown.read; are = shown.are; part = part_called has.table found.one; visible = shown.visible; full = subst (λ (n : ℕ). level_limit ≤ n) (sym found.level) has.is }

@@ -15,12 +15,12 @@ use Rattle.mt_values.specs.Values.{Row}
 use Rattle.mt_values.proofs.RowPartitions.{values_fit}
 use Rattle.part_history.specs.mt_model.History.{History, IsInsertInto, IsLegal, schema_of}
 use Rattle.part_history.specs.mt_model.Live.{live, sorted}
-use Rattle.part_history.specs.mt_model.Numbers.{lies_within, numbered, within}
+use Rattle.part_history.specs.mt_model.Numbers.{Reach, lies_within, numbered, reached}
 use Rattle.part_history.proofs.MtModelDetermined.{sorting_total}
 use Rattle.part_history.proofs.MtModelSorting.{sorted_permutes}
 use Rattle.part_history.specs.declared.part.CorePart.{CorePart}
-use Rattle.part_history.specs.Parts.{PartStands}
-use Rattle.part_history.proofs.Numbered.{IsInto, all_into, kept, kept_if, live_numbered, live_within, sorted_by}
+use Rattle.part_history.specs.Parts.{PartStands, reach_of_part}
+use Rattle.part_history.proofs.Numbered.{IsInto, all_into, kept, kept_if, live_numbered, live_reached, sorted_by}
 use Rattle.rule_replacing.specs.rule_law.TableRows.{IsTableRow}
 use Rattle.rule_replacing.proofs.RuleLawPartlyRows.{partly_table}
 use Rattle.row_merge.specs.Merged.{ArePartRows}
@@ -63,14 +63,13 @@ module _ (h : History) (legal : IsLegal h) where
   pub table_rows : (table : List ℕ) (schema : Schema) → schema_of table h ≡ Some schema → All (IsTableRow schema) (live table schema h)
   table_rows table schema there = subst (All (IsTableRow schema)) (sym (live_numbered table schema h)) (drawn_rows schema (numbered table h) (all_into table h schema legal there))
 
-  live_rows : (table : List ℕ) (schema : Schema) (p : Partition) (a b : ℕ) → schema_of table h ≡ Some schema → All (IsTableRow schema) (live table schema (within table p a b h))
-  live_rows table schema p a b there = subst (All (IsTableRow schema)) (sym (live_within table schema p a b h)) (kept_rows schema p a b 1 _ (all_into table h schema legal there))
+  live_rows : (schema : Schema) (r : Reach) → schema_of r.table h ≡ Some schema → All (IsTableRow schema) (live r.table schema (reached r h))
+  live_rows schema r there = subst (All (IsTableRow schema)) (sym (live_reached schema r h)) (kept_rows schema r.partition r.least r.greatest 1 _ (all_into r.table h schema legal there))
 
   -- the rows of a part that stands for the history
   part_rows : (part : CorePart) (s : PartStands h part) → All (IsTableRow s.schema) part.rows
   part_rows part s =
-      let name = part.name in
-      partly_table s.schema (live part.table s.schema (within part.table name.partition name.min_block name.max_block h)) part.rows (live_rows part.table s.schema name.partition name.min_block name.max_block s.there) s.partly
+      partly_table s.schema (live part.table s.schema (reached (reach_of_part part) h)) part.rows (live_rows s.schema (reach_of_part part) s.there) s.stands.partly
 
   pub are_part_rows : (schema : Schema) (part : CorePart) → schema_of part.table h ≡ Some schema → PartStands h part → All (λ (row : Row). partition_of schema row ≡ part.name.partition) part.rows → ArePartRows schema part.name.partition part.rows
   are_part_rows schema part there s parted =
@@ -78,5 +77,5 @@ module _ (h : History) (legal : IsLegal h) where
       record {
         own = subst (λ (x : Schema). All (IsTableRow x) part.rows) same (part_rows part s);
         parted = parted;
-        rising = subst (λ (x : Schema). IsSorted (sorting_cmp x) part.rows) same s.rising;
+        rising = subst (λ (x : Schema). IsSorted (sorting_cmp x) part.rows) same s.stands.rising;
       }

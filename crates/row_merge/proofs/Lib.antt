@@ -25,4 +25,3 @@ pub use Rattle.rule_replacing.proofs.RuleLawPartlyRows
 pub use Rattle.rule_replacing.proofs.RuleLawRanges
 pub use Rattle.rule_replacing.proofs.RuleLawSummed
 pub use Rattle.rule_replacing.proofs.RuleLawTableRows
-pub use Rattle.rule_replacing.proofs.RuleLawWrapping

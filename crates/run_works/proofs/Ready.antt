@@ -1,5 +1,5 @@
 -- A root that was opened is ready for a turn.
-use Rattle.std.proofs.Common.{◌≡◌, ℕ, Option, Some, sym, ◌∙◌, arith}
+use Rattle.std.proofs.Common.{◌≡◌, ℕ, Option, Some, refl, sym, ◌∙◌, arith}
 use Rattle.mt_outside.specs.Disk.{Names, Told, names_of}
 use Rattle.mt_outside.specs.Files.{Files}
 use Rattle.root_log.proofs.RootOpeningImagesShown.{shown_opened}
@@ -10,7 +10,14 @@ use Rattle.root_log.specs.root_store.declared.store.CoreStore.{CoreStore}
 
 -- the parts of the greatest level are shown, as all are
 greatest : {F : Type 0} (store : CoreStore F) (names : Names) → AreShown store names → GreatestAreShown store names
-greatest store names s = λ table name has level. record { read = s.read; are = s.are; visible = (s.parts table name).1 has }
+greatest store names s = λ table name has level. record {
+  one = name;
+  shown = record { read = s.read; are = s.are; visible = (s.parts table name).1 has };
+  partition = refl;
+  min_block = refl;
+  max_block = refl;
+  level = refl;
+}
 
 -- a root without a fault so far
 pub ready : {F : Type 0} (files_of : F → Option Files) (store : CoreStore F) (disk now : Option Told) (count failed : ℕ)

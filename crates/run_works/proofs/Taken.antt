@@ -9,7 +9,7 @@ use Rattle.session.specs.mt_model.History.{IsTableSchema}
 use Rattle.shared_store.specs.Engines.{GoesOn, IsOpen, Opened, Snaps}
 use Rattle.shared_store.specs.Works.{TakesPair}
 use Rattle.shared_store.specs.declared.work.Work.{Work}
-use Rattle.shared_store.specs.merge_select.declared.scope.Scope.{Scope}
+use Rattle.shared_store.specs.mutation_queue.declared.scope.Scope.{Scope}
 use Rattle.shared_store.specs.part_reader.declared.reading.Part.{Part}
 use Rattle.shared_store.specs.part_set.declared.kept.Snap.{Snap}
 use Rattle.run_works.specs.Works.{MayBeMerged}

@@ -110,7 +110,7 @@ module _ {F : Type 0} (files_of : F → Option Files) (w : Wanted) (h : History)
       let same : stands.0.schema ≡ schema = same_schema stands.0.schema schema (sym stands.0.there ∙ (ap (λ t. schema_of t h) tables.0 ∙ there)) in
       let part : ArePartOf schema k.name.partition r = record {
         typed = hold.0.typed;
-        rising = subst (λ (s : Schema). IsSorted (sorting_cmp s) r) same stands.0.rising;
+        rising = subst (λ (s : Schema). IsSorted (sorting_cmp s) r) same stands.0.stands.rising;
         parted = own.0;
       } in
       let marks = marked_is schema c r k hold.0.loaded_is in

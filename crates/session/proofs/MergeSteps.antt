@@ -5,8 +5,8 @@ use Rattle.mt_base.specs.declared.memory.NoMemory.{NoMemory}
 use Rattle.mt_base.specs.declared.partition.Partition.{Partition}
 use Rattle.mt_outside.specs.Files.{Files}
 use Rattle.replies.specs.mt_model.History.{IsTableSchema}
-use Rattle.shared_store.specs.merge_select.declared.scope.Scope.{Scope}
-use Rattle.shared_store.specs.merge_select.Picks.{InScope}
+use Rattle.shared_store.specs.mutation_queue.declared.scope.Scope.{Scope}
+use Rattle.shared_store.specs.mutation_queue.Scopes.{InScope}
 use Rattle.shared_store.specs.part_set.declared.run.Run.{Run}
 use Rattle.shared_store.specs.part_set.Sets.{parts_of}
 use Rattle.shared_store.specs.declared.work.Work.{Work}

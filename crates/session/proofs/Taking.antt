@@ -9,8 +9,8 @@ use Rattle.std.specs.List.{slice_get}
 use Rattle.mt_base.specs.declared.partition.Partition.{Partition}
 use Rattle.mt_base.specs.Limits.{level_limit}
 use Rattle.mt_outside.specs.Files.{Files}
-use Rattle.shared_store.specs.merge_select.declared.scope.Scope.{Scope}
-use Rattle.shared_store.specs.merge_select.Picks.{InScope}
+use Rattle.shared_store.specs.mutation_queue.declared.scope.Scope.{Scope}
+use Rattle.shared_store.specs.mutation_queue.Scopes.{InScope}
 use Rattle.shared_store.specs.merge_select.Whole.{IsFirstBusy, PicksAll}
 use Rattle.shared_store.specs.mutation_queue.Queue.{mutations_of}
 use Rattle.shared_store.specs.part_name.declared.part.PartName.{PartName}

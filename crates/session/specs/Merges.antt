@@ -28,7 +28,7 @@ use Rattle.shared_store.specs.part_set.declared.kept.Kept.{Kept}
 use Rattle.shared_store.specs.part_set.Parts.{kept_in, partition_rank}
 use Rattle.shared_store.specs.part_set.Sets.{parts_of}
 use Rattle.shared_store.specs.merge_select.Whole.{PicksAll}
-use Rattle.shared_store.specs.mutation_queue.declared.numbered.Mutation.{Mutation}
+use Rattle.mt_values.specs.declared.mutation.Mutation.{Mutation}
 use Rattle.shared_store.specs.mutation_queue.Queue.{mutations_of}
 use Rattle.shared_store.specs.durable_commit.declared.causes.Refused.TheVariants as refused
 use Rattle.shared_store.specs.root_commits.declared.commits.Returned.{Returned}

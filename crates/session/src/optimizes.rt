@@ -5,7 +5,7 @@ ghost use Rattle.std.specs.List.{AllPairs};
 ghost use Rattle.mt_base.specs.declared.partition.Partition.{Partition};
 ghost use Rattle.mt_values.specs.declared.statement.Statement.TheVariants as statement;
 ghost use Rattle.mt_values.specs.Annals.{Told};
-ghost use Rattle.shared_store.specs.merge_select.Picks.{InScope};
+ghost use Rattle.shared_store.specs.mutation_queue.Scopes.{InScope};
 ghost use Rattle.shared_store.specs.part_set.Parts.{IsInBlockOrder, partition_rank};
 ghost use Rattle.shared_store.specs.part_set.Sets.{parts_of};
 ghost use Rattle.shared_store.specs.root_store.Shown.{HasNoMark};

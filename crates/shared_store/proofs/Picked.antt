@@ -5,8 +5,8 @@ use Rattle.std.proofs.Math.Seq.{drop-cons, take-length}
 use Rattle.std.proofs.lemmas.List.Elements.{All-from_recursion}
 use Rattle.std.proofs.lemmas.Option.{get_or_from_slice_get, slice_get_within}
 use Rattle.mt_base.specs.declared.partition.Partition.{Partition}
-use Rattle.merge_select.specs.declared.scope.Pick.{Pick}
-use Rattle.merge_select.specs.declared.scope.Scope.{Scope}
+use Rattle.merge_select.specs.declared.found.Pick.{Pick}
+use Rattle.root_commits.specs.mutation_queue.declared.scope.Scope.{Scope}
 use Rattle.merge_select.specs.Picks.{Choice, IsPick}
 use Rattle.root_commits.specs.part_reader.declared.reading.Part.{Part}
 use Rattle.root_commits.specs.part_set.declared.kept.Kept.{Kept}

@@ -7,8 +7,8 @@ use Rattle.mt_base.specs.declared.memory.NoMemory.{NoMemory}
 use Rattle.mt_base.specs.declared.partition.Partition.{Partition}
 use Rattle.mt_outside.specs.Files.{Files}
 use Rattle.root_commits.specs.mt_model.History.{History}
-use Rattle.merge_select.specs.declared.scope.Pick.{Pick}
-use Rattle.merge_select.specs.declared.scope.Scope.{Scope}
+use Rattle.merge_select.specs.declared.found.Pick.{Pick}
+use Rattle.root_commits.specs.mutation_queue.declared.scope.Scope.{Scope}
 use Rattle.merge_select.specs.declared.whole.Busy.{Busy}
 use Rattle.merge_select.specs.Picks.{Choice, IsPick, NoneIn}
 use Rattle.merge_select.specs.Whole.{PicksAll}

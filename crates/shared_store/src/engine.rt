@@ -29,8 +29,8 @@ use std::marker::Model;
 /// merges.
 ///
 /// Between two turns the store is sound, and the disk's count of faults is at least the one at opening, which is below
-/// the last of 64 bits. While it is that one, the names of the disk are names of the store's tables and parts, and no
-/// others.
+/// the last of 64 bits. While it is that one, each name of the disk is the entry of a table of the store, or a part of
+/// one whose name ends by the number that the table drew last, and the visible parts are exactly the store's.
 #[derive(Drop)]
 pub struct Engine<F: Dir, R: Arm<Dir = F>, D: Disk<Arm = R>, A: Annals> {
     store: CoreStore<F>,
@@ -42,13 +42,14 @@ pub struct Engine<F: Dir, R: Arm<Dir = F>, D: Disk<Arm = R>, A: Annals> {
 impl<F: Dir, R: Arm<Dir = F>, D: Disk<Arm = R>, A: Annals> Model for Engine<F, R, D, A> {
     ghost use Rattle.std.specs.Coded.{codes};
     ghost use Rattle.std_collections.specs.Layout.BTreeMap.{btree_map_code};
+    ghost use Rattle.mt_values.specs.PolishCode.{condition_code};
     ghost use Rattle.root_commits.specs.Turns.{storage};
     ghost use Rattle.root_commits.specs.root_store.Soundness.{IsReady};
     ghost use Rattle.shared_store.specs.Engines.{Opened};
 
     ghost Value = { Opened F };
 
-    ghost coded = { Prim.hlevel (codes, btree_map_code) };
+    ghost coded = { Prim.hlevel (codes, btree_map_code, condition_code) };
 
     ghost view = { λ e. record {
       store = e.store;
