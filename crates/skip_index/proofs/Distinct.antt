@@ -1,11 +1,11 @@
 -- Values that are each kept once, in the order in which they first occur.
-use Rattle.std.proofs.Common.{◌≡◌, ℕ, suc, ◌+◌, ◌<◌, ◌≤◌, Bool, true, false, cond, not, ◌||◌, Decides, List, [], ◌∷◌, ◌++◌, Some, refl, sym, ap, ap₂, ◌∙◌, subst, nat_eq, fold, length, length-append, map, take, drop, slice_get, get_or, append-nil, append_assoc, take-append-drop, arith}
+use Rattle.std.proofs.Common.{◌≡◌, ℕ, suc, ◌+◌, ◌<◌, ◌≤◌, Bool, true, false, cond, not, ◌||◌, Decides, List, [], ◌∷◌, ◌++◌, Some, refl, sym, ap, ap₂, ◌∙◌, subst, nat_eq, nat_le, fold, length, length-append, map, take, drop, slice_get, get_or, append-nil, append_assoc, take-append-drop, arith}
 use Rattle.std.specs.Cmp.Lexicographic.{pointwise_decides}
 use Rattle.std.specs.List.{list_any}
 use Rattle.std.specs.Ordering.{is_eq}
 use Rattle.std.specs.declared.cmp.Ordering.{Ordering}
 use Rattle.std.specs.declared.cmp.Ordering.TheVariants.{Less, Equal, Greater}
-use Rattle.std.proofs.lemmas.Bool.{le-leb, lt-leb}
+use Rattle.std.proofs.lemmas.Bool.{le-leb, leb-false, leb-true, lt-leb}
 use Rattle.std.proofs.lemmas.Bool.Decides.{Decides-eqb, Decides-int_eq, Decides-like}
 use Rattle.std.proofs.lemmas.Cmp.{tied_itself}
 use Rattle.std.proofs.lemmas.List.{length_push, map_push}
@@ -20,6 +20,7 @@ use Rattle.mt_values.specs.declared.value.Value.TheVariants as value
 use Rattle.mt_values.specs.Cells.{value_of}
 use Rattle.mt_values.specs.Order.{value_cmp}
 use Rattle.mt_values.proofs.Orders.{value_exact, value_total}
+use Rattle.predicate.specs.declared.extent.Known.{Known}
 use Rattle.predicate.specs.declared.extent.Known.TheVariants as known
 use Rattle.column_file.proofs.Writing.{picked_more, values_at}
 use Rattle.skip_index.specs.Blocks.{distinct_of, most_kept, same_value, set_of, with_new}
@@ -176,17 +177,43 @@ pub set_none : (limit : ℕ) (vs : List Value) → most_kept limit < length (dis
 set_none limit vs many = ap (λ b. cond b (known.List (distinct_of vs)) known.Unknown) (lt-leb (length (distinct_of vs)) (most_kept limit) many)
 
 -- where the first few values are too many, all are
-pub set_full : (limit : ℕ) (values : List Value) (places : List ℕ) (n : ℕ) → most_kept limit < length (distinct_of (values_at values (take n places))) → known.Unknown ≡ set_of limit (values_at values places)
-set_full limit values places n many =
-    let parts : values_at values places ≡ values_at values (take n places) ++ values_at values (drop n places) =
-    ap (values_at values) (sym (take-append-drop n places)) ∙ filter_map-append (slice_get values) (take n places) (drop n places) in
-    let front = distinct_front (values_at values (take n places)) (values_at values (drop n places)) in
-    sym (set_none limit (values_at values places) (omega (arith, many, front, ap (λ vs. length (distinct_of vs)) parts)))
+pub set_full : (limit : ℕ) (first values : List Value) (places : List ℕ) (n : ℕ) → most_kept limit < length (distinct_of (first ++ values_at values (take n places))) → known.Unknown ≡ set_of limit (first ++ values_at values places)
+set_full limit first values places n many =
+    let front_values = values_at values (take n places) in
+    let rest_values = values_at values (drop n places) in
+    let parts : first ++ values_at values places ≡ (first ++ front_values) ++ rest_values =
+    ap (λ vs. first ++ vs) (ap (values_at values) (sym (take-append-drop n places)) ∙ filter_map-append (slice_get values) (take n places) (drop n places)) ∙ sym (append_assoc first front_values rest_values) in
+    let front = distinct_front (first ++ front_values) rest_values in
+    sym (set_none limit (first ++ values_at values places) (omega (arith, many, front, ap (λ vs. length (distinct_of vs)) parts)))
 
 -- a value more of those at places
-pub seen_more : (values : List Value) (places : List ℕ) (i : ℕ) (k : Cell) (ks new : List Cell) → i < length places → slice_get values (get_or places i 0) ≡ Some (value_of k)
-    → map value_of ks ≡ distinct_of (values_at values (take i places)) → map value_of new ≡ with_new (map value_of ks) (value_of k) → map value_of new ≡ distinct_of (values_at values (take (i + 1) places))
-seen_more values places i k ks new below is so e =
+pub seen_more : (first values : List Value) (places : List ℕ) (i : ℕ) (k : Cell) (ks new : List Cell) → i < length places → slice_get values (get_or places i 0) ≡ Some (value_of k)
+    → map value_of ks ≡ distinct_of (first ++ values_at values (take i places)) → map value_of new ≡ with_new (map value_of ks) (value_of k) → map value_of new ≡ distinct_of (first ++ values_at values (take (i + 1) places))
+seen_more first values places i k ks new below is so e =
+    let before = values_at values (take i places) in
     e ∙ ap (λ us. with_new us (value_of k)) so
-    ∙ sym (distinct_more (values_at values (take i places)) (value_of k))
-    ∙ ap distinct_of (sym (picked_more values places i (value_of k) below is))
+    ∙ sym (distinct_more (first ++ before) (value_of k))
+    ∙ ap distinct_of (append_assoc first before (value_of k ∷ []) ∙ ap (λ vs. first ++ vs) (sym (picked_more values places i (value_of k) below is)))
+
+-- values that are kept each once, with more after them
+pub set_more : (limit : ℕ) (values more kept : List Value) → known.List kept ≡ set_of limit values → (length (distinct_of kept) ≤ most_kept limit) × (set_of limit (kept ++ more) ≡ set_of limit (values ++ more))
+set_more limit values more kept is = by (nat_le (length (distinct_of values)) (most_kept limit)) refl is
+  where
+    by : (b : Bool) → nat_le (length (distinct_of values)) (most_kept limit) ≡ b → known.List kept ≡ cond b (known.List (distinct_of values)) known.Unknown
+        → (length (distinct_of kept) ≤ most_kept limit) × (set_of limit (kept ++ more) ≡ set_of limit (values ++ more))
+    by true few e =
+        let same : kept ≡ distinct_of values = cc in
+        let again : distinct_of kept ≡ distinct_of values = ap distinct_of same ∙ distinct_again values in (
+          omega (arith, ap length again, leb-true (length (distinct_of values)) (most_kept limit) few),
+          ap (λ (vs : List Value). cond (nat_le (length vs) (most_kept limit)) (known.List vs) known.Unknown)
+              (fold-append with_new [] kept more ∙ ap (λ us. fold with_new us more) again ∙ sym (fold-append with_new [] values more)),
+        )
+    by false few e = cc
+
+-- values that are too many, with more after them
+pub set_fuller : (limit : ℕ) (values more : List Value) (begun : Known) → ((kept : List Value) → begun ≡ known.List kept → ⊥) → begun ≡ set_of limit values → known.Unknown ≡ set_of limit (values ++ more)
+set_fuller limit values more begun other is = by (nat_le (length (distinct_of values)) (most_kept limit)) refl is
+  where
+    by : (b : Bool) → nat_le (length (distinct_of values)) (most_kept limit) ≡ b → begun ≡ cond b (known.List (distinct_of values)) known.Unknown → known.Unknown ≡ set_of limit (values ++ more)
+    by true few e = absurd (other (distinct_of values) e)
+    by false many e = sym (set_none limit (values ++ more) (omega (arith, leb-false (length (distinct_of values)) (most_kept limit) many, distinct_front values more)))

@@ -3,6 +3,7 @@ pub mod Built
 pub mod Distinct
 pub mod Extremes
 pub mod FileShapes
+pub mod Grown
 pub mod Keeping
 pub mod OneWay
 pub mod Skipped

@@ -1,9 +1,11 @@
 -- What a skip index keeps of the rows of a part, and its bytes (docs/formats.md, "Skip indexes").
-use Rattle.std.specs.Prelude.{◌≡◌, ℕ, ◌*◌, ◌<◌, ◌^◌, false, List, [], ◌++◌, flat_map, length, map, slice_index_or}
+use Rattle.std.specs.Prelude.{◌≡◌, ◌≢◌, ℕ, ◌*◌, ◌<◌, ◌^◌, false, List, [], ◌++◌, Option, Some, None, flat_map, length, map, slice_index_or}
 use Rattle.std.specs.Int.{w32, to_le_bytes}
+use Rattle.mt_values.specs.declared.schema.IndexKind.{IndexKind}
 use Rattle.mt_values.specs.declared.schema.IndexKind.TheVariants as kind
 use Rattle.mt_values.specs.declared.schema.Schema.{Schema}
 use Rattle.mt_values.specs.declared.schema.SkipIndex.{SkipIndex}
+use Rattle.mt_values.specs.declared.value.Value.{Value}
 use Rattle.mt_values.specs.ColumnBytes.{column_bytes, value_bytes}
 use Rattle.mt_values.specs.Granules.{granules}
 use Rattle.mt_values.specs.Grid.{column_of}
@@ -34,6 +36,16 @@ index_over i granularity rows = record {
 -- what is kept of the table's skip index at a place, of the rows of a part in their order (docs/formats.md, "Skip indexes")
 abbrev pub index_of : Schema → ℕ → List Row → Index
 index_of schema place rows = index_over (index_at schema place) schema.granularity rows
+
+-- a list that is parted into whole granules (docs/formats.md, "Skip indexes")
+pub record AreWhole {X : Type 0} (granularity : ℕ) (xs : List X) : Type 0 where
+  pub count : ℕ
+  pub length_is : length xs ≡ granularity * count
+
+-- what is kept of the values that a block has so far, where it has begun (docs/formats.md, "Skip indexes")
+abbrev pub IsBegun : IndexKind → List Value → Option Known → Type 0
+IsBegun kind values None = values ≡ []
+IsBegun kind values (Some begun) = (values ≢ []) × (begun ≡ kept_of kind values)
 
 -- the bytes of a block: its least and its greatest value, or how many values are kept and then these; 0 where none is (docs/formats.md, "Skip indexes")
 abbrev pub known_bytes : Known → List ℕ

@@ -3,7 +3,7 @@
 // The rows of a part are parted into blocks of some granules, the last perhaps shorter. A block of a minmax index has the least and
 // the greatest value of its column, each as in a column file. A block of a set has, as a u32, how many distinct values it keeps, and
 // then these, in the order in which they first occur in it; where there are more than it keeps, it has the number 0 alone.
-ghost use Rattle.std.specs.Prelude.{◌≡◌, ◌<◌, ◌++◌, All, IfOk, OnOk, filter_map, fold, length, map, slice_get};
+ghost use Rattle.std.specs.Prelude.{◌≡◌, ◌≤◌, ◌<◌, ◌++◌, All, IfOk, OnOk, filter_map, fold, length, map, slice_get};
 ghost use Rattle.mt_values.specs.Cells.{value_of};
 ghost use Rattle.mt_values.specs.ColumnBytes.{column_bytes};
 ghost use Rattle.mt_values.specs.Grid.{picked};
@@ -12,12 +12,14 @@ ghost use Rattle.skip_index.specs.Blocks.{
   HasIndex,
   IsCounted,
   blocks_of,
+  distinct_of,
   greater,
   index_bytes,
   index_of,
   kept_of,
   known_bytes,
   lesser,
+  most_kept,
   range_of,
   set_of,
 };
@@ -120,7 +122,11 @@ fn range_of(alloc: Global, cells: &ColumnData, places: &[u32]) -> Result<Known, 
 }
 
 /// The least and the greatest of a value and of those at these places. Takes no memory.
-fn extremes<'a>(cells: &'a ColumnData, first: Cell<'a>, places: &[u32]) -> (Cell<'a>, Cell<'a>)
+pub(crate) fn extremes<'a>(
+    cells: &'a ColumnData,
+    first: Cell<'a>,
+    places: &[u32],
+) -> (Cell<'a>, Cell<'a>)
     requires { All (λ place. place < length cells.now.values) places.now }
     ensures least { value_of result.0 ≡ fold lesser (value_of first.entry)
         (filter_map (slice_get cells.now.values) places.now) }
@@ -157,8 +163,7 @@ fn greater<'a>(first: Cell<'a>, second: Cell<'a>) -> Cell<'a>
     first
 }
 
-/// Each of the values at these places once, where they are no more than a set with this limit keeps. Ends at the first value that
-/// is too many.
+/// Each of the values at these places once, where they are no more than a set with this limit keeps.
 ///
 /// `NoMemory` where an allocation failed.
 fn set_of(alloc: Global, limit: u64, cells: &ColumnData, places: &[u32]) -> Result<Known, NoMemory>
@@ -166,8 +171,27 @@ fn set_of(alloc: Global, limit: u64, cells: &ColumnData, places: &[u32]) -> Resu
     ensures { IfOk result
         (λ k. k ≡ set_of limit (filter_map (slice_get cells.now.values) places.now)) }
 {
+    let none: [Value; 0] = [];
+    set_from(alloc, limit, &none, cells, places)
+}
+
+/// Each of some values and of those at these places once, where they are no more than a set with this limit keeps; the first are no more. Ends at the
+/// first value that is too many.
+///
+/// `NoMemory` where an allocation failed.
+pub(crate) fn set_from(
+    alloc: Global,
+    limit: u64,
+    first: &[Value],
+    cells: &ColumnData,
+    places: &[u32],
+) -> Result<Known, NoMemory>
+    requires { All (λ place. place < length cells.now.values) places.now }
+    ensures { length (distinct_of first.now) ≤ most_kept limit → IfOk result (λ k. k
+        ≡ set_of limit (first.now ++ filter_map (slice_get cells.now.values) places.now)) }
+{
     let most = most_kept(limit);
-    let mut distinct = IndexSet::new(alloc);
+    let mut distinct = seen_of(alloc, first)?;
     for place in places {
         see(&mut distinct, cells.at(*place as usize))?;
         if distinct.len() as u64 > most {
@@ -175,6 +199,19 @@ fn set_of(alloc: Global, limit: u64, cells: &ColumnData, places: &[u32]) -> Resu
         }
     }
     Ok(Known::List(values_of(alloc, distinct.as_slice())?))
+}
+
+/// Each of these values once, as cells.
+///
+/// `NoMemory` where an allocation failed.
+fn seen_of<'a>(alloc: Global, values: &'a [Value]) -> Result<IndexSet<Cell<'a>>, NoMemory>
+    ensures { IfOk result (λ seen. map value_of seen.keys ≡ distinct_of values.now) }
+{
+    let mut seen = IndexSet::new(alloc);
+    for value in values {
+        see(&mut seen, Cell::of(value))?;
+    }
+    Ok(seen)
 }
 
 /// The bytes of a skip index.

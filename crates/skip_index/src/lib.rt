@@ -3,6 +3,7 @@
 
 mod building;
 mod choosing;
+mod growing;
 mod index;
 mod laws;
 mod reading;
@@ -12,6 +13,7 @@ mod values;
 pub use building::{build, kept_of, spell};
 pub use choosing::choose;
 pub use column_file::byte_numbers::FormatFault;
+pub use growing::add_granule;
 pub use index::Index;
 pub use laws::{blocks_are_read_in_one_way, blocks_of_rows_are_read, skipped_blocks_hold_no_match};
 pub use reading::read;
