@@ -183,7 +183,7 @@ differ f g other = by (same_file f g) refl
     by false e = refl
 
 -- a file at another place is another
-other_place : (schema : Schema) (i k : ℕ) (f g : FileId) → slice_get (content_ids schema) i ≡ Some f → slice_get (content_ids schema) k ≡ Some g → k < i → same_file g f ≡ false
+pub other_place : (schema : Schema) (i k : ℕ) (f g : FileId) → slice_get (content_ids schema) i ≡ Some f → slice_get (content_ids schema) k ≡ Some g → k < i → same_file g f ≡ false
 other_place schema i k f g here there below =
     differ g f (λ same. let places : k ≡ i = sym (content_place schema k g there) ∙ ap (file_place schema) same ∙ content_place schema i f here in omega (arith, places, below))
 

@@ -1,7 +1,16 @@
+pub mod ColumnFiles
 pub mod Contents
+pub mod EndedRows
 pub mod FileLaws
 pub mod Filling
 pub mod Folders
+pub mod Granules
+pub mod GrownIndexes
+pub mod KeptRows
+pub mod Growth
+pub mod OpenedFiles
+pub mod PendingColumns
+pub mod RowsOut
 pub use Rattle.digest_file.proofs.ByteNumbersNumbers
 pub use Rattle.primary_marks.proofs.ColumnFileFronts
 pub use Rattle.primary_marks.proofs.ColumnFileMarked

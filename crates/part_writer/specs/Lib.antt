@@ -1,3 +1,4 @@
+pub mod Growing
 pub mod PartFiles
 pub use Rattle.digest_file.specs.byte_numbers
 pub use Rattle.primary_marks.specs.column_file
