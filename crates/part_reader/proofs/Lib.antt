@@ -1,3 +1,5 @@
+pub mod AheadBytes
+pub mod ArmReads
 pub mod CheckedParts
 pub mod ChosenColumns
 pub mod ChosenItems
@@ -11,6 +13,7 @@ pub mod HeldRows
 pub mod Holding
 pub mod IndexedBlocks
 pub mod KeptColumns
+pub mod LeftGranules
 pub mod LongerFiles
 pub mod MarkedValues
 pub mod NumberMarks

@@ -1,3 +1,4 @@
+pub mod Ahead
 pub mod Columns
 pub mod Compared
 pub mod Damage
@@ -6,6 +7,7 @@ pub mod Faults
 pub mod Granules
 pub mod Parts
 pub mod Picks
+pub mod Readings
 pub mod Sound
 pub use Rattle.part_damage.specs.column_file
 pub use Rattle.part_damage.specs.digest_file

@@ -1,5 +1,5 @@
 // Rows that are made of columns.
-ghost use Rattle.std.specs.Prelude.{◌≡◌, ◌<◌, [], All, IfOk, length, map, slice_get};
+ghost use Rattle.std.specs.Prelude.{◌≡◌, ◌++◌, ◌<◌, [], All, IfOk, OnOk, length, map, slice_get};
 ghost use Rattle.std.specs.List.{filter_map};
 ghost use Rattle.mt_values.specs.Grid.{Cells};
 ghost use Rattle.mt_values.specs.Schemas.{column_types};
@@ -26,6 +26,18 @@ pub fn empty_columns(
         columns.push(ColumnData::new(alloc, column.col_type))?;
     }
     Ok(columns)
+}
+
+/// Adds the rows of a block to others, each by itself.
+///
+/// `NoMemory` where an allocation failed; some of the first rows may have been added then.
+pub fn add_rows(alloc: Global, block: &Block, rows: &mut Vec<Row>) -> Result<(), NoMemory>
+    ensures { OnOk result (rows.new.items ≡ rows.old.items ++ block.now.rows) }
+{
+    for place in 0..block.len() {
+        rows.push(block.row(alloc, place)?)?;
+    }
+    Ok(())
 }
 
 /// The rows of a block, each by itself.

@@ -11,17 +11,23 @@ ghost use Rattle.mt_values.specs.Printing.{selected};
 ghost use Rattle.mt_values.specs.Schemas.{column_types};
 ghost use Rattle.mt_values.specs.Values.{Row};
 ghost use Rattle.part_reader.specs.Faults.{ExplainsAt, ExplainsEach, IsNoDamage};
-ghost use Rattle.part_reader.specs.Granules.{ExplainsChosen, GainsChosen, chosen_count, chosen_of, column_in};
+ghost use Rattle.part_reader.specs.Granules.{ExplainsChosen, ExplainsRun, GainsChosen, chosen_count, chosen_of, column_in, rows_in};
 ghost use Rattle.part_reader.specs.Parts.{HoldsAt, with_columns};
+ghost use Rattle.part_reader.specs.Readings.{granule_items, lone};
 
-use crate::cut_rows::{empty_columns, rows_of_block};
+use crate::ahead::Source;
+use crate::cut_rows::{add_rows, rows_of_block};
+use crate::part_rows::{PartRows, none_ahead, read_block};
 use crate::reading::{Part, PartFault};
-use crate::runs::{Run, add_run, row_count};
+use crate::runs::{Run, add_run, granule_rows};
 use mt_base::NoMemory;
 use mt_outside::Arm;
-use mt_values::{Block, ColumnData, Row};
+use mt_values::{ColumnData, Row, Rows};
 use part_damage::part_writer::Loaded;
 use std::alloc::Global;
+
+/// How many bytes of a column are read ahead where one part is read by itself.
+const AHEAD: u64 = 65536;
 
 /// Adds the values that the rows of the chosen granules have in the part's columns at these places, counted from 0, each to its own
 /// column. Neighbouring granules are read at once, column by column, and no byte outside of the chosen ones is read; a place may come
@@ -71,9 +77,9 @@ pub fn add_granules<R: Arm>(
 }
 
 /// The rows of the chosen granules of a part, in order: of each the values at these places, counted from 0, in their order. A place may
-/// come twice. The files are read as `add_granules` reads them.
+/// come twice. They are read granule by granule, a granule's rows at once.
 ///
-/// The errors are those of `add_granules`, and `NoMemory` where 32 bits can't count the rows.
+/// The errors are those of `add_granules`.
 pub fn read_granules<R: Arm>(
     alloc: Global,
     arm: &mut R,
@@ -103,14 +109,63 @@ pub fn read_granules<R: Arm>(
     // What the arm is then, and its count of faults.
     ensures arm { LeavesArm R.Arm arm.old arm.new (IsErrOf result PartFault.Fault) }
 {
-    let Ok(mut columns) = empty_columns(alloc, &part.loaded.schema, places) else {
+    let Ok(mut reader) = PartRows::new(alloc, part, chosen, places, AHEAD) else {
         return Err(PartFault::NoMemory);
     };
-    let Some(count) = count_chosen(&part.loaded, chosen) else {
+    let mut rows = Vec::new(alloc);
+    'given: while let Some(block) = reader.next(alloc, arm)? {
+        let Ok(()) = add_rows(alloc, &block, &mut rows) else {
+            return Err(PartFault::NoMemory);
+        };
+    }
+    Ok(rows)
+}
+
+/// The rows of a granule of a part, counted from 0, in order: of each the values at these places, counted from 0, in their order. A
+/// place may come twice. The granule's bytes alone are read. Digests are not compared.
+///
+/// The errors are those of `read_granules`.
+pub fn read_granule<R: Arm>(
+    alloc: Global,
+    arm: &mut R,
+    part: &Part<R::Dir>,
+    number: usize,
+    places: &[u32],
+) -> Result<Vec<Row>, PartFault>
+    requires number { number < granules part.now.loaded.schema.granularity
+        part.now.loaded.manifest.rows }
+    requires places { All (λ place. place < length part.now.loaded.schema.columns) places.now }
+
+    // What is read.
+    ensures rows { (schema : Schema) (rows : List Row)
+        → HoldsAt R.Dir.files schema part.now (map file.Column places.now) rows
+        → IfOk result (λ v. v.items ≡ map (selected places.now)
+        (granule_items part.now.loaded.schema.granularity number rows)) }
+    ensures count { IfOk result (λ v. length v.items ≡ rows_in part.now.loaded (lone number)) }
+
+    // What a fault says.
+    ensures sound { (schema : Schema) (rows : List Row)
+        → HoldsAt R.Dir.files schema part.now (map file.Column places.now) rows
+        → IfErr result IsNoDamage }
+    ensures damaged { IfErr result (ExplainsAt (λ column t. ExplainsRun
+        (column_in R.Dir.files part.now column) (lone number) t)
+        (column_types part.now.loaded.schema) places.now) }
+
+    // What the arm is then, and its count of faults.
+    ensures arm { LeavesArm R.Arm arm.old arm.new (IsErrOf result PartFault.Fault) }
+{
+    // Reading how many rows there are shows that 64 bits count the next granule.
+    prove!((number as u64) < part.rows());
+    let Ok(mut aheads) = none_ahead(alloc, places.len()) else {
         return Err(PartFault::NoMemory);
     };
-    add_granules(alloc, arm, part, chosen, places, &mut columns)?;
-    let block = Block::of_columns(columns, count);
+    let none: [bool; 0] = [];
+    let source = Source {
+        part,
+        chosen: &none,
+        most: 0,
+    };
+    let block = read_block(alloc, arm, &source, places, number, &mut aheads)?;
     match rows_of_block(alloc, &block) {
         Ok(rows) => Ok(rows),
         Err(NoMemory) => Err(PartFault::NoMemory),
@@ -128,11 +183,7 @@ pub fn count_chosen(loaded: &Loaded, chosen: &[bool]) -> Option<usize>
         if !*is_chosen {
             continue;
         }
-        let run = Run {
-            first: granule,
-            count: 1,
-        };
-        rows = rows.checked_add(row_count(loaded, run))?;
+        rows = rows.checked_add(granule_rows(loaded, granule))?;
     }
     if rows > u32::MAX as usize {
         return None;

@@ -1,6 +1,7 @@
 //! The parts of tables: opened and checked by the marks of the manifest, and the values of their columns read back.
 #![tactic(auto)]
 
+mod ahead;
 mod checking;
 mod comparing;
 mod copies;
@@ -11,6 +12,7 @@ mod indexed;
 mod laws;
 mod marked;
 mod opening;
+mod part_rows;
 mod picked_rows;
 mod reading;
 mod runs;
@@ -18,10 +20,11 @@ mod runs;
 pub use checking::check_part;
 pub use cut_rows::{empty_columns, rows_of_block};
 pub use files::{Span, read_file};
-pub use granules::{add_granules, count_chosen, read_granules};
+pub use granules::{add_granules, count_chosen, read_granule, read_granules};
 pub use laws::{damage_is_one_file, parts_hold_what_was_written, sound_parts_hold_rows};
 pub use opening::open_part;
 pub use part_damage::{column_file, digest_file, part_writer, primary_marks, skip_index};
+pub use part_rows::PartRows;
 pub use picked_rows::add_granules_where;
 pub use reading::{NO_MARK, Part, PartFault, read_columns};
 pub use runs::Run;

@@ -3,6 +3,7 @@ ghost use Rattle.std.specs.Prelude.{◌≡◌, ◌<◌, ◌+◌, ◌^◌, IfErr,
 ghost use Rattle.mt_outside.specs.Leaves.{LeavesArm};
 ghost use Rattle.mt_base.specs.declared.name.FileId.TheVariants as file;
 ghost use Rattle.part_reader.specs.Granules.{ExplainsRun, IsRunAdded, IsSpanOf, column_in, no_run, place_of, rows_in};
+ghost use Rattle.part_reader.specs.Readings.{lone};
 
 use crate::files::{Span, read_span};
 use crate::marked::{misread, wanted_of};
@@ -71,7 +72,7 @@ pub fn span_of(places: &Places, number: u32, run: Run) -> Option<Span>
 }
 
 /// Where a granule of a column begins in its file, by the places that are kept; after the last granule, where the file ends.
-fn place_of(places: &Places, number: u32, granule: usize) -> Option<u64>
+pub fn place_of(places: &Places, number: u32, granule: usize) -> Option<u64>
     ensures { result ≡ place_of places.now number granule }
 {
     let column = places.as_slice().get(number as usize)?;
@@ -86,6 +87,19 @@ pub fn row_count(loaded: &Loaded, run: Run) -> usize
     let before = granularity.saturating_mul(run.first);
     let rows = (loaded.manifest.rows as usize).saturating_sub(before);
     granularity.saturating_mul(run.count).min(rows)
+}
+
+/// How many rows a granule has: none where it is past the last one.
+pub fn granule_rows(loaded: &Loaded, granule: usize) -> usize
+    ensures rows { result ≡ rows_in loaded.now (lone granule) }
+    ensures few { result < 2 ^ 32 }
+{
+    let most = loaded.schema.granularity as usize;
+    let run = Run {
+        first: granule,
+        count: 1,
+    };
+    row_count(loaded, run).min(most)
 }
 
 /// What is said where the places that are kept have no run that was to be read.

@@ -11,4 +11,4 @@ pub loop-granule-preserved : goal.loop-granule-preserved
 loop-granule-preserved c =
     let loaded = c.args.loaded.now in
     let more = count_more loaded.schema.granularity loaded.manifest.rows c.args.chosen.now c.loop-granule.granule c.loop-granule-test.true c.if-not-is_chosen.false in
-    record { rows = omega (arith, more, c.row_count.ensures, c.loop-granule.invariant.rows, c.in_ok-rows.ensures) }
+    record { rows = omega (arith, more, c.granule_rows.ensures.rows, c.loop-granule.invariant.rows, c.in_ok-rows.ensures) }
