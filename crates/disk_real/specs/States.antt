@@ -8,10 +8,15 @@ pub record DiskState : Type 0 where
   pub failed : ℕ
   pub started : Option (List ℕ)
 
--- how many calls of a stage have failed, as far as 64 bits count, and which of its files were written since their last sync
+-- a writer, and the bytes that are gathered for it
+pub record Gathered (W : Type 0) : Type 0 where
+  pub writer : W
+  pub bytes : List ℕ
+
+-- how many calls of a stage have failed, as far as 64 bits count, and which of its files were written since their last sync, with what is gathered of each
 pub record StageState : Type 0 where
   pub failed : ℕ
-  pub unsynced : List FileId
+  pub unsynced : List (FileId × List ℕ)
 
 -- where a folder that is done lies, as the bytes of its path, the number that its disk gave it, and whether no folder lies there, so that it has no files
 pub record DirState : Type 0 where

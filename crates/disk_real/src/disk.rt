@@ -1,5 +1,6 @@
 // A folder of the system as a disk.
 ghost use Rattle.std.specs.Prelude.{◌≡◌, ◌<◌, ◌⊎◌, IfOk, IsErr, IsErrOf, IsSome, IsTrue, None, OnErr, OnOk, Some};
+ghost use Rattle.disk_real.specs.Stages.{AreWritten};
 ghost use Rattle.file_names.specs.Names.{is_root_name};
 
 use crate::arm::RealArm;
@@ -149,21 +150,23 @@ impl<R: System> RealDisk<R> {
         }
     }
 
-    // Gives a stage a name, if none of its calls had failed and the folder lies under its path.
+    // Gives a stage a name, if none of its calls had failed and the folder lies under its path. What is gathered of its files is written before.
     fn give(
         &mut self,
         alloc: Global,
-        stage: &RealStage<R>,
+        stage: &mut RealStage<R>,
         name: &Name,
     ) -> Result<RealDir, DiskError>
         ensures same { self.new ≡ self.old }
-        ensures failed { 0 < stage.now.failed → IsErrOf result DiskError.Fault }
+        ensures failed { 0 < stage.old.failed → IsErrOf result DiskError.Fault }
+        ensures written { OnOk result (AreWritten stage.new.unsynced) }
     {
         if stage.has_failed() {
             return Err(DiskError::Fault);
         }
         let number = draw(&mut self.dirs)?;
         let path = self.path_of(alloc, name)?;
+        stage.write_out()?;
         sync_folder(&self.rt, stage.path())?;
         self.check()?;
         rename(&self.rt, stage.path(), &path)?;
@@ -246,7 +249,8 @@ impl<R: System + Send> Disk for RealDisk<R> {
         stage: RealStage<R>,
         name: &Name,
     ) -> Result<RealDir, DiskError> {
-        let given = self.give(alloc, &stage, name);
+        let mut stage = stage;
+        let given = self.give(alloc, &mut stage, name);
         if given.is_err() {
             let _ = stage.remove();
         }

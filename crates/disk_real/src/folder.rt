@@ -1,21 +1,20 @@
 // Folders of the root: one that is being made, and one that is done.
 ghost use Rattle.std.specs.Prelude.{◌≡◌, ◌<◌, ◌↔◌, [], IfOk, IsTrue, OnErr, OnOk, false, string_bytes, true};
-ghost use Rattle.disk_real.specs.Stages.{has, without};
+ghost use Rattle.disk_real.specs.Stages.{AreWritten, files_of, has, without};
 
 use crate::guard::Guard;
 use crate::handles::Handles;
-use crate::system::{System, clear, fault, make_folder, open_at_end, sync_file};
-use crate::tries::write_whole;
+use crate::system::{System, clear, make_folder, open_at_end, sync_file};
 use file_names::path_in;
 use mt_base::{FileId, NoMemory};
 use mt_outside::{Dir, DiskError, Faults, Stage};
 use std::alloc::Global;
-use std::fs::File;
 use std::marker::Model;
 
-/// A folder that is being made. Contracts see how many of its calls have failed, and which of its files were written since their last sync.
+/// A folder that is being made. Contracts see how many of its calls have failed, and which of its files were written since their last sync, with what
+/// is gathered of each.
 ///
-/// Each file stays open from its first write until it is synced, by the handle that wrote it.
+/// Each file stays open from its first write until it is synced, by the handle that writes it.
 pub struct RealStage<R> {
     rt: R,
     alloc: Global,
@@ -187,41 +186,44 @@ impl<R: System> RealStage<R> {
         if self.handles.get(file).is_none() {
             let path = file_path(self.alloc, &self.path, file)?;
             let handle = open_at_end(&self.rt, &path)?;
-            self.handles.add(file, handle)?;
+            self.handles.add(self.alloc, file, handle)?;
         }
         Ok(())
     }
 
-    // Writes bytes at the end of a file. Its handle is kept, also where the write fails.
+    // Adds bytes at the end of a file. Its handle is kept, also where a write fails.
     fn write(&mut self, file: FileId, bytes: &[u8]) -> Result<(), DiskError>
         ensures same { self.new.failed ≡ self.old.failed }
         ensures open { OnOk result (IsTrue (has file self.new.unsynced)) }
     {
         self.open(file)?;
-        match self.handles.get(file) {
-            Some(handle) => write_open(handle, bytes),
-            None => Err(DiskError::Fault),
-        }
+        self.handles.append(file, bytes)
     }
 
-    // Settles a file by the handle that wrote it, and closes it. One that was not written since its last sync is settled already.
+    /// Writes what is gathered of its files.
+    pub(crate) fn write_out(&mut self) -> Result<(), DiskError>
+        ensures same { self.new.failed ≡ self.old.failed }
+        ensures files { files_of self.new.unsynced ≡ files_of self.old.unsynced }
+        ensures written { OnOk result (AreWritten self.new.unsynced) }
+    {
+        self.handles.write_out()
+    }
+
+    // Writes what is gathered, settles a file by the handle that wrote it, and closes it. One that was not written since its last sync is settled already.
     fn settle(&mut self, file: FileId) -> Result<(), DiskError>
         ensures same { self.new.failed ≡ self.old.failed }
-        ensures synced { OnOk result (self.new.unsynced ≡ without file self.old.unsynced) }
-        ensures err { OnErr result (self.new ≡ self.old) }
+        ensures written { OnOk result (AreWritten self.new.unsynced) }
+        ensures synced { OnOk result
+            (files_of self.new.unsynced ≡ files_of (without file self.old.unsynced)) }
+        ensures err { OnErr result (files_of self.new.unsynced ≡ files_of self.old.unsynced) }
     {
+        self.handles.write_out()?;
         if let Some(handle) = self.handles.get(file) {
             sync_file(&self.rt, handle)?;
         }
         self.handles.close(file);
         Ok(())
     }
-}
-
-// Writes bytes at the end of an open file.
-fn write_open(handle: &File, bytes: &[u8]) -> Result<(), DiskError> {
-    let mut writer = handle;
-    write_whole(&mut writer, bytes).map_err(fault)
 }
 
 impl<R: System + Send> Stage for RealStage<R> {
@@ -231,7 +233,8 @@ impl<R: System + Send> Stage for RealStage<R> {
 
     ghost failed = { λ s. s.failed };
 
-    /// An interrupted write is tried again, at most `MOST_TRIES` times in all; one that takes nothing is a fault.
+    /// Few bytes are gathered: they are written once they are many, and before a sync. A write that fails then is a fault of that call. An interrupted
+    /// write is tried again, at most `MOST_TRIES` times in all; one that takes nothing is a fault.
     fn append(&mut self, file: FileId, bytes: &[u8]) -> Result<(), DiskError> {
         let done = self.write(file, bytes);
         self.faults.note(done)

@@ -1,28 +1,31 @@
 // The open files of a stage.
-ghost use Rattle.std.specs.Prelude.{◌≡◌, ◌++◌, ◌∷◌, [], ◌↔◌, IsSome, IsTrue, OnErr, OnOk};
-ghost use Rattle.disk_real.specs.Stages.{has, without};
+ghost use Rattle.std.specs.Prelude.{◌≡◌, ◌++◌, ◌∷◌, [], ◌↔◌, All, IsSome, IsTrue, OnErr, OnOk, map};
+ghost use Rattle.disk_real.specs.Stages.{AreWritten, files_of, has, without};
 
+use crate::gathering::Gathering;
 use mt_base::{FileId, NoMemory};
+use mt_outside::DiskError;
 use std::alloc::Global;
 use std::fs::File;
 use std::marker::Model;
 
-/// The files of a stage that were written since their last sync, each open by the handle that wrote it. Contracts see which these are.
+/// The files of a stage that were written since their last sync, each open by the handle that writes it. Contracts see which these are, and what is
+/// gathered of each.
 ///
 /// A sync asks that handle whether each of its writes came through. A file that is closed and opened again tells only of what failed since:
 /// the system may have forgotten by then that a write before failed.
 #[derive(Drop)]
 pub(crate) struct Handles {
-    open: Vec<(FileId, File)>,
+    open: Vec<(FileId, Gathering<File>)>,
 }
 
 impl Model for Handles {
-    ghost use Rattle.std.specs.Prelude.{List, map};
+    ghost use Rattle.std.specs.Prelude.{ℕ, List, map};
     ghost use Rattle.mt_base.specs.declared.name.FileId.{FileId};
 
-    ghost Value = { List FileId };
+    ghost Value = { List (FileId × List ℕ) };
 
-    ghost view = { λ h. map (λ o. o.0) h.open.items };
+    ghost view = { λ h. map (λ o. (o.0, o.1.bytes)) h.open.items };
 }
 
 impl Handles {
@@ -35,31 +38,74 @@ impl Handles {
         }
     }
 
-    /// The handle that wrote a file since its last sync, if one did.
+    /// The handle that writes a file since its last sync, if one does.
     pub(crate) fn get(&self, file: FileId) -> Option<&File>
         ensures { IsSome result ↔ IsTrue (has file self.now) }
     {
-        for (written, handle) in &self.open {
+        for (written, growing) in &self.open {
             if written.is(file) {
-                return Some(handle);
+                return Some(growing.writer());
             }
         }
         None
     }
 
-    /// Keeps the handle of one more file.
-    pub(crate) fn add(&mut self, file: FileId, handle: File) -> Result<(), NoMemory>
-        ensures ok { OnOk result (self.new ≡ self.old ++ file ∷ []) }
+    /// Keeps the handle of one more file, of which nothing is gathered.
+    pub(crate) fn add(&mut self, alloc: Global, file: FileId, handle: File) -> Result<(), NoMemory>
+        ensures ok { OnOk result (self.new ≡ self.old ++ (file, []) ∷ []) }
         ensures err { OnErr result (self.new ≡ self.old) }
     {
-        self.open.push((file, handle))?;
+        self.open.push((file, Gathering::new(alloc, handle)))?;
         Ok(())
     }
 
-    /// Closes a file that is synced.
+    /// Adds bytes at the end of an open file; they may be gathered.
+    pub(crate) fn append(&mut self, file: FileId, bytes: &[u8]) -> Result<(), DiskError>
+        ensures { files_of self.new ≡ files_of self.old }
+    {
+        append_among(&mut self.open, file, bytes)
+    }
+
+    /// Writes what is gathered of each file.
+    pub(crate) fn write_out(&mut self) -> Result<(), DiskError>
+        ensures same { files_of self.new ≡ files_of self.old }
+        ensures written { OnOk result (AreWritten self.new) }
+    {
+        write_each(&mut self.open)
+    }
+
+    /// Closes a file that is synced. Nothing is gathered then.
     pub(crate) fn close(&mut self, file: FileId)
+        requires { AreWritten self.old }
         ensures { self.new ≡ without file self.old }
     {
         self.open.retain(|(written, _)| !written.is(file));
     }
+}
+
+// Adds bytes at the end of the file, which is one of these.
+fn append_among(
+    open: &mut [(FileId, Gathering<File>)],
+    file: FileId,
+    bytes: &[u8],
+) -> Result<(), DiskError>
+    ensures { map (λ o. o.0) open.new ≡ map (λ o. o.0) open.old }
+{
+    for place in 0..open.len() {
+        if open[place].0.is(file) {
+            return open[place].1.push(bytes);
+        }
+    }
+    Err(DiskError::Fault)
+}
+
+// Writes what is gathered of each of these.
+fn write_each(open: &mut [(FileId, Gathering<File>)]) -> Result<(), DiskError>
+    ensures same { map (λ o. o.0) open.new ≡ map (λ o. o.0) open.old }
+    ensures written { OnOk result (All (λ o. o.1.bytes ≡ []) open.new) }
+{
+    for place in 0..open.len() {
+        open[place].1.write_out()?;
+    }
+    Ok(())
 }

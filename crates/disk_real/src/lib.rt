@@ -5,6 +5,7 @@
 mod arm;
 mod disk;
 mod folder;
+mod gathering;
 mod guard;
 mod handles;
 mod numbers;

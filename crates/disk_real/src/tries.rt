@@ -1,12 +1,15 @@
 // Files read and written whole, by calls that are tried again where they were interrupted.
-ghost use Rattle.std.specs.Prelude.{◌≤◌, length, IfOk};
+ghost use Rattle.std.specs.Prelude.{◌≤◌, length, IfOk, OnOk};
+ghost use Rattle.std.specs.Io.KnownBytes.{Appends};
 
 use mt_outside::{read_some, write_some};
 use std::io;
 use std::io::{Read, Write};
 
 /// Writes, until all is taken. After an error a front of the bytes may be written.
-pub(crate) fn write_whole<W: Write>(writer: &mut W, bytes: &[u8]) -> io::Result<()> {
+pub(crate) fn write_whole<W: Write>(writer: &mut W, bytes: &[u8]) -> io::Result<()>
+    ensures { OnOk result (Appends (W.contents writer.old) (W.contents writer.new) bytes.now) }
+{
     let mut taken = 0usize;
     while taken < bytes.len() {
         taken += write_some(writer, &bytes[taken..])?;

@@ -70,6 +70,8 @@ impl Told {
         self.read(arm, dir, FileId::Column(0), 2);
         self.read(arm, dir, FileId::Column(0), u64::MAX);
         self.read(arm, dir, FileId::Column(1), 0);
+        self.read(arm, dir, FileId::Column(2), 65_532);
+        self.read(arm, dir, FileId::Column(2), 79_996);
     }
 
     // Tells the names of the root.
@@ -110,6 +112,13 @@ impl Told {
         }
     }
 
+    // Writes a file of 80,000 bytes, four at a time. It is not synced.
+    fn grow(&mut self, stage: &mut RealStage<HostRuntime>) {
+        for number in 0..20_000u32 {
+            self.note(stage.append(FileId::Column(2), &number.to_be_bytes()).err());
+        }
+    }
+
     // Writes and syncs two files, and syncs one that is not there.
     fn fill(&mut self, stage: &mut RealStage<HostRuntime>) {
         self.note(stage.append(FileId::Entry, b"CREATE ").err());
@@ -120,7 +129,7 @@ impl Told {
         self.note(stage.sync(FileId::Marks).err());
     }
 
-    // Publishes a folder of two files.
+    // Publishes a folder of three files.
     fn publish(
         &mut self,
         disk: &mut RealDisk<HostRuntime>,
@@ -129,6 +138,7 @@ impl Told {
     ) -> Result<RealDir, DiskError> {
         let mut stage = arm.stage(self.alloc)?;
         self.fill(&mut stage);
+        self.grow(&mut stage);
         disk.publish(self.alloc, stage, name)
     }
 
