@@ -88,7 +88,8 @@ pub fn add_granule<R: Arm>(
     column: &mut ColumnData,
 ) -> Result<(), PartFault>
     requires granule { granule + 1 < 2 ^ 64 }
-    requires ahead { IsAhead (R.Dir.files source.now.part.now.dir) source.now.most number ahead.old }
+    requires ahead { IsAhead (R.Dir.files source.now.part.now.dir) source.now.most number
+        ahead.old }
     ensures read { OnOk result (IsRunAdded (column_in R.Dir.files source.now.part.now number)
         (lone granule) column.old column.new) }
     ensures ahead { IsAhead (R.Dir.files source.now.part.now.dir) source.now.most number ahead.new }

@@ -151,8 +151,8 @@ impl Grown {
 
         // What is written and kept.
         ensures rows { (written keyed : List Row) → AreWhole self.old.schema.granularity written
-            → HasWritten stage.old self.old written keyed → OnOk result (HasWritten stage.new self.new
-            (written ++ picked block.now.rows order.now)
+            → HasWritten stage.old self.old written keyed → OnOk result
+            (HasWritten stage.new self.new (written ++ picked block.now.rows order.now)
             (keyed ++ take 1 (picked block.now.rows order.now))) }
         ensures schema { self.new.schema ≡ self.old.schema }
         ensures told { OnOk result (is_some stage.new.files ≡ is_some stage.old.files) }

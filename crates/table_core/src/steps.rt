@@ -45,8 +45,8 @@ pub fn happen(alloc: Global, store: &mut Store, event: Event) -> Result<Outcome,
 fn decide(alloc: Global, store: &mut Store, entry: Entry) -> Result<Outcome, NoMemory>
     requires store { IsStore store.old }
     requires may { MayAccept store.old.entries.items entry.command }
-    ensures gives { IfOk result (λ given. AcceptGives (core_of store.old) entry.session entry.command
-        given (core_of store.new)) }
+    ensures gives { IfOk result (λ given.
+        AcceptGives (core_of store.old) entry.session entry.command given (core_of store.new)) }
     ensures err { OnErr result (core_of store.new ≡ core_of store.old) }
     ensures store { IsStore store.new }
 {
