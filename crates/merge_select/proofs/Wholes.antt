@@ -4,7 +4,7 @@ use Rattle.std.proofs.lemmas.Bool.{cases_lt}
 use Rattle.std.proofs.lemmas.Option.{same_Some, slice_get-get_or, slice_get_within}
 use Rattle.std.specs.List.{AllWithin}
 use Rattle.mt_values.specs.declared.mutation.Mutation.{Mutation}
-use Rattle.mutation_queue.specs.Pending.{MayMerge}
+use Rattle.mutation_queue.specs.part_set.part_name.Pending.{MayMerge}
 use Rattle.mutation_queue.specs.part_set.declared.kept.Kept.{Kept}
 use Rattle.merge_select.specs.Whole.{AllMayMerge, AreParted, IsFirstBusy}
 

@@ -6,7 +6,7 @@ use Rattle.mt_base.specs.declared.policy.Policy.TheVariants.{Near, Head, Tail}
 use Rattle.mt_base.specs.Limits.{level_limit}
 use Rattle.mutation_queue.specs.declared.mutations.Mutations.{Mutations}
 use Rattle.mt_values.specs.declared.mutation.Mutation.{Mutation}
-use Rattle.mutation_queue.specs.Pending.{MayMerge}
+use Rattle.mutation_queue.specs.part_set.part_name.Pending.{MayMerge}
 use Rattle.mutation_queue.specs.Queue.{mutations_of}
 use Rattle.mutation_queue.specs.Scopes.{ComesBefore, InScope}
 use Rattle.mutation_queue.specs.part_set.declared.kept.Kept.{Kept}

@@ -2,7 +2,7 @@
 use Rattle.std.specs.Prelude.{◌≡◌, ◌⊎◌, ℕ, ◌+◌, ◌<◌, true, false, List, [], length, slice_get, Option, Some, None, Result, Ok, Err}
 use Rattle.std.specs.List.{All, AllWithin}
 use Rattle.mt_values.specs.declared.mutation.Mutation.{Mutation}
-use Rattle.mutation_queue.specs.Pending.{MayMerge}
+use Rattle.mutation_queue.specs.part_set.part_name.Pending.{MayMerge}
 use Rattle.mutation_queue.specs.part_set.part_name.declared.part.PartName.{PartName}
 use Rattle.mutation_queue.specs.part_set.declared.kept.Kept.{Kept}
 use Rattle.mutation_queue.specs.part_set.declared.run.Run.{Run}

@@ -10,7 +10,7 @@ use Rattle.std.specs.List.Sorted.{IsPartitionedBy}
 use Rattle.part_set.specs.part_name.declared.part.PartName.{PartName}
 use Rattle.part_set.specs.part_name.PartNames.{data_version}
 use Rattle.mt_values.specs.declared.mutation.Mutation.{Mutation}
-use Rattle.mutation_queue.specs.Pending.{MayMerge, Rise, pending_for}
+use Rattle.part_set.specs.part_name.Pending.{MayMerge, Rise, pending_for}
 
 -- ---- a filter that passes all, or none
 

@@ -1,5 +1,4 @@
 pub mod Listed
-pub mod Pending
 pub mod Queue
 pub mod Rewrites
 pub mod Scopes

@@ -10,7 +10,7 @@ use Rattle.part_set.specs.Sets.{parts_of}
 use Rattle.mutation_queue.specs.declared.mutations.Mutations.{Mutations}
 use Rattle.mutation_queue.specs.declared.rewriting.Rewrite.{Rewrite}
 use Rattle.mutation_queue.specs.declared.scope.Scope.{Scope}
-use Rattle.mutation_queue.specs.Pending.{pending_for}
+use Rattle.part_set.specs.part_name.Pending.{pending_for}
 use Rattle.mutation_queue.specs.Queue.{mutations_of}
 use Rattle.mutation_queue.specs.Scopes.{ComesBefore, InScope}
 

@@ -1,7 +1,7 @@
 // The mutations of all tables.
 ghost use Rattle.std.specs.Prelude.{◌≡◌, ◌≢◌, ◌<◌, ◌++◌, ◌∷◌, ◌↔◌, ℕ, List, [], IsOk, IsTrue, OnErr, OnOk};
 ghost use Rattle.std.specs.List.{All};
-ghost use Rattle.mutation_queue.specs.Pending.{MayMerge, Rise, pending_for};
+ghost use Rattle.part_set.specs.part_name.Pending.{MayMerge, Rise, pending_for};
 ghost use Rattle.mutation_queue.specs.Queue.{HasRoom, IsPut, listed_of, mutations_of};
 
 use crate::numbered::Numbered;

@@ -1,7 +1,7 @@
 // The mutations of one table.
 ghost use Rattle.std.specs.Prelude.{◌≡◌, ◌<◌, ◌≤◌, ◌++◌, ◌∷◌, ◌↔◌, [], length, IsOk, IsTrue, OnErr, OnOk};
 ghost use Rattle.std.specs.List.{All, AllWithin};
-ghost use Rattle.mutation_queue.specs.Pending.{MayMerge, Rise, pending_for};
+ghost use Rattle.part_set.specs.part_name.Pending.{MayMerge, Rise, pending_for};
 
 use mt_base::NoMemory;
 use mt_values::Mutation;
@@ -19,7 +19,7 @@ impl Model for Numbered {
     ghost use Rattle.std.specs.Coded.{codes};
     ghost use Rattle.std.specs.Prelude.{◌-◌, length, vec_capacity};
     ghost use Rattle.mt_values.specs.PolishCode.{condition_code};
-    ghost use Rattle.mutation_queue.specs.Pending.{Rise};
+    ghost use Rattle.part_set.specs.part_name.Pending.{Rise};
     ghost use Rattle.mutation_queue.specs.Listed.{Listed};
 
     ghost Value = { Listed };

@@ -1,4 +1,5 @@
 pub mod Fields
 pub mod Merged
 pub mod PartNames
+pub mod Pending
 pub mod Standing

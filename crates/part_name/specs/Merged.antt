@@ -39,6 +39,16 @@ abbrev pub merged_of : List PartName → Option PartName
 merged_of [] = None
 merged_of (first ∷ rest) = Some (merged_name first rest)
 
+-- the name of a part to which mutations up to this one were applied: the same but for that (docs/formats.md, "Names of parts")
+abbrev pub rewritten : PartName → ℕ → PartName
+rewritten name mutation = record {
+  partition = name.partition;
+  min_block = name.min_block;
+  max_block = name.max_block;
+  level = name.level;
+  mutation = Some mutation;
+}
+
 -- each of the parts stands before the next one (docs/formats.md, "Names of parts")
 abbrev pub RiseFrom : PartName → List PartName → Type 0
 RiseFrom first [] = first.min_block ≤ first.max_block

@@ -11,7 +11,7 @@ mod spelling;
 pub use laws::{
     containment_is_an_order, merged_parts_contain_their_sources, part_texts_are_told_apart,
 };
-pub use merges::{join, raise};
+pub use merges::{join, raise, rewrite};
 pub use part::PartName;
 pub use reading::{parse, parse_partition};
 pub use relations::{Stand, before, contains, data_version, meet, stand_to};

@@ -1,7 +1,7 @@
-// The names of the parts that merges make.
+// The names of the parts that merges and rewrites make.
 ghost use Rattle.std.specs.Prelude.{◌≡◌, None, Some, if◌then◌else◌, nat_lt};
 ghost use Rattle.mt_base.specs.Limits.{level_limit};
-ghost use Rattle.part_name.specs.Merged.{joined_name, later_mutation, raised};
+ghost use Rattle.part_name.specs.Merged.{joined_name, later_mutation, raised, rewritten};
 
 use crate::PartName;
 
@@ -42,4 +42,14 @@ pub fn raise(name: &PartName) -> Option<PartName>
         level: name.level + 1,
         ..*name
     })
+}
+
+/// The name of a part to which mutations up to this one were applied.
+pub fn rewrite(name: &PartName, mutation: u32) -> PartName
+    ensures { result ≡ rewritten name.now mutation }
+{
+    PartName {
+        mutation: Some(mutation),
+        ..*name
+    }
 }

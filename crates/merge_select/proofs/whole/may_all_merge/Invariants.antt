@@ -1,6 +1,6 @@
 -- no mutation parts two of the parts gone over that follow each other
 use Rattle.std.proofs.Common.{◌≡◌, ℕ, ◌+◌, ◌<◌, slice_get, Some}
-use Rattle.mutation_queue.specs.Pending.{MayMerge}
+use Rattle.mutation_queue.specs.part_set.part_name.Pending.{MayMerge}
 use Rattle.mutation_queue.specs.Queue.{mutations_of}
 use Rattle.mutation_queue.specs.part_set.declared.kept.Kept.{Kept}
 use Rattle.merge_select.proofs.whole.may_all_merge.Given as goal

@@ -4,7 +4,7 @@ use Rattle.mt_values.specs.declared.change.Change.TheVariants.{Delete}
 use Rattle.mt_values.specs.declared.mutation.Mutation.{Mutation}
 use Rattle.mt_values.specs.Conditions.{Always}
 use Rattle.mutation_queue.specs.Listed.{Listed}
-use Rattle.mutation_queue.specs.Pending.{MayMerge}
+use Rattle.part_set.specs.part_name.Pending.{MayMerge}
 use Rattle.mutation_queue.proofs.Counts.{none_parts, same_counts, same_from_test, test_from_same}
 use Rattle.mutation_queue.proofs.numbered.Numbered.may_merge.Goals as goal
 

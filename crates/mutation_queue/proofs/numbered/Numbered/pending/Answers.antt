@@ -1,7 +1,7 @@
 use Rattle.std.proofs.Common.{◌∙◌, List, ap}
 use Rattle.mt_values.specs.declared.mutation.Mutation.{Mutation}
 use Rattle.mutation_queue.specs.Listed.{Listed}
-use Rattle.mutation_queue.specs.Pending.{pending_for}
+use Rattle.part_set.specs.part_name.Pending.{pending_for}
 use Rattle.mutation_queue.proofs.numbered.Numbered.pending.Goals as goal
 
 pub returns-clause-pending : goal.returns-clause-pending
