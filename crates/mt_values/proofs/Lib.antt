@@ -1,12 +1,12 @@
 pub mod Bounds
 pub mod Columns
+pub mod DigitNumbers
 pub mod Fronts
 pub mod Grids
 pub mod KeyOrders
 pub mod Keywords
 pub mod Leads
 pub mod Limited
-pub mod Literals
 pub mod Masks
 pub mod OrderBy
 pub mod Orders
@@ -18,6 +18,7 @@ pub mod RowPartitions
 pub mod RowValueAt
 pub mod RowValues
 pub mod ScriptBounds
+pub mod Searches
 pub mod SortingPlaces
 pub mod Texts
 pub mod TokenBounds

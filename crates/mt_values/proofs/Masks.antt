@@ -82,6 +82,13 @@ module _ {X : Type 0} (f h : X → Bool) where
   pub all_gone_over : (xs : List X) (i : ℕ) (mask : List Bool) → length xs ≤ i → mask ≡ gone_over xs i → mask ≡ map added xs
   all_gone_over xs i mask end before = over_all f added xs i mask end before
 
+-- the mask of the items gone over and of one more
+pub masked_more : {X : Type 0} (f : X → Bool) (xs : List X) (i : ℕ) (x : X) → i < length xs → x ≡ get_or xs i x → map f (take (i + 1) xs) ≡ map f (take i xs) ++ f x ∷ []
+masked_more f xs i x within is =
+    ap (map f) (take_more xs i x within)
+    ∙ map-append f (take i xs) (get_or xs i x ∷ [])
+    ∙ ap (λ y. map f (take i xs) ++ f y ∷ []) (sym is)
+
 -- ---- runs
 
 module _ {X : Type 0} where

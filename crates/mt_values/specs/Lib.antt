@@ -21,6 +21,7 @@ pub mod RootNames
 pub mod Rows
 pub mod Schemas
 pub mod Script
+pub mod Searches
 pub mod Sorting
 pub mod Strings
 pub mod Sums

@@ -26,6 +26,15 @@ says comparison.GreaterOrEqual ordering.Greater = true
 says comparison.GreaterOrEqual ordering.Equal = true
 says c o = false
 
+-- a comparison is =, which IN is too (ClickHouse, IN operators)
+abbrev pub is_equal : Comparison → Bool
+is_equal comparison.Equal = true
+is_equal c = false
+
+-- a value is one of a list (ClickHouse, IN operators)
+abbrev pub is_among : List Value → Value → Bool
+is_among literals v = list_any (λ literal. says comparison.Equal (value_cmp v literal)) literals
+
 -- a value meets a test: it compares so with some literal of it; IN is = with several (ClickHouse, IN operators)
 abbrev pub meets : Test → Value → Bool
 meets t v = list_any (λ literal. says t.comparison (value_cmp v literal)) t.literals

@@ -100,6 +100,14 @@ impl Block {
         &self.columns[place]
     }
 
+    /// The columns, in their order.
+    pub fn columns(&self) -> &[ColumnData]
+        ensures even { All (λ c. length c.values ≡ length self.now.rows) result.now }
+        ensures block { self.now ≡ grid_of result.now (length self.now.rows) }
+    {
+        self.columns.as_slice()
+    }
+
     /// The row at a place, counted from 0, as a row of its own.
     ///
     /// `NoMemory` where there was none for the row or a text of it.

@@ -9,7 +9,7 @@ ghost use Rattle.mt_values.specs.declared.value.Value.TheVariants as value;
 
 use crate::strings::Strings;
 use crate::{Cell, ColType, Value};
-use mt_base::NoMemory;
+use mt_base::{NoMemory, Twin};
 use std::alloc::Global;
 use std::marker::Model;
 
@@ -268,6 +268,17 @@ impl ColumnData {
         Ok(ColumnData {
             cells: self.cells.pick(alloc, order)?,
         })
+    }
+}
+
+impl Twin for ColumnData {
+    fn twin(&self, alloc: Global) -> Result<Self, NoMemory> {
+        let count = self.len();
+        let mut copy = ColumnData::new(alloc, self.col_type());
+        for place in 0..count {
+            copy.push_cell(self.at(place))?;
+        }
+        Ok(copy)
     }
 }
 

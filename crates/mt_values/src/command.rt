@@ -1,5 +1,5 @@
 // The commands that a history is made of.
-use crate::{Block, Name, Schema};
+use crate::{Block, Change, Name, Schema};
 use mt_base::Partition;
 
 /// A table to be made.
@@ -17,15 +17,23 @@ pub struct Insert {
     pub block: Block,
 }
 
+/// A change of a table's rows, which has no number yet.
+#[derive(Drop)]
+pub struct Alter {
+    pub table: Name,
+    pub change: Change,
+}
+
 /// A command that was accepted, or may be.
-#[derive(Debug, Drop)]
+#[derive(Drop)]
 pub enum Command {
     Create(Create),
     Insert(Insert),
+    Alter(Alter),
 }
 
 /// A command of a session.
-#[derive(Debug, Drop)]
+#[derive(Drop)]
 pub struct Entry {
     pub session: u64,
     pub command: Command,

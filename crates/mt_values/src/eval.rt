@@ -4,7 +4,7 @@ ghost use Rattle.mt_values.specs.declared.expr.Joint.{Joint};
 ghost use Rattle.mt_values.specs.Tests.{ComesToTruth, MayAsk, eval, meets, meets_at, says};
 
 use crate::stack::Stack;
-use crate::{Comparison, Expr, Joint, Row, Test, Value, cmp_value};
+use crate::{Cell, Comparison, Expr, Joint, Row, Test, Value, cmp_value};
 use std::cmp::Ordering;
 
 impl Expr<Test> {
@@ -52,10 +52,14 @@ fn step<'a>(row: &Row, tests: &'a [Test], joint: Joint, truths: &mut Stack<bool>
     tests
 }
 
-/// Whether a value meets a test: it compares so with one of the literals. Takes no memory.
+/// Whether a value meets a test: it compares so with one of the literals. Takes no memory. Among the many literals of IN it is sought by
+/// bisection.
 pub fn meets(test: &Test, value: &Value) -> bool
     ensures { result ≡ meets test.now value.now }
 {
+    if test.comparison.is_equal() {
+        return test.literals.has(Cell::of(value));
+    }
     test.literals
         .as_slice()
         .iter()

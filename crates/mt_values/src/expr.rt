@@ -8,7 +8,7 @@ ghost use Rattle.mt_values.specs.Conditions as condition;
 ghost use Rattle.mt_values.specs.Conditions.{height, map_tests, tests_of};
 ghost use Rattle.mt_values.specs.Polish.{joints_of};
 
-use crate::{Bytes, Name, Value};
+use crate::{Bytes, Literals, Name};
 use mt_base::{NoMemory, Seq, Twin};
 use std::alloc::Global;
 use std::marker::Model;
@@ -49,11 +49,30 @@ pub struct TestText {
 }
 
 /// A comparison of the column at a place with literals of its type: it holds where it holds with one of them.
-#[derive(Drop, PartialEq, Eq)]
+#[derive(Drop)]
 pub struct Test {
     pub column: u32,
     pub comparison: Comparison,
-    pub literals: Seq<Value>,
+    pub literals: Literals,
+}
+
+impl Comparison {
+    ghost use Rattle.std.specs.Prelude.{◌≡◌};
+    ghost use Rattle.mt_values.specs.Tests.{is_equal};
+
+    /// Whether it is `=`, which IN is too.
+    pub fn is_equal(self) -> bool
+        ensures { result ≡ is_equal self }
+    {
+        match self {
+            Comparison::Equal => true,
+            Comparison::NotEqual
+            | Comparison::Less
+            | Comparison::LessOrEqual
+            | Comparison::Greater
+            | Comparison::GreaterOrEqual => false,
+        }
+    }
 }
 
 /// What an expression is made of, in Polish order.

@@ -40,7 +40,7 @@ fn text_value(alloc: Global, col_type: ColType, bytes: &Bytes) -> Result<Option<
 }
 
 // The value that a sign and digits are in a column of a type, where it is in the type's range.
-#[tactic(auto, using(crate::proofs::Literals::no_value))]
+#[tactic(auto, using(crate::proofs::DigitNumbers::no_value))]
 fn number_value(col_type: ColType, negative: bool, digits: &[u8]) -> Option<Value>
     ensures { result ≡ number_value col_type (signed negative (number_of digits.now)) }
 {
@@ -63,7 +63,7 @@ fn number_value(col_type: ColType, negative: bool, digits: &[u8]) -> Option<Valu
 }
 
 // The number that decimal digits say, where 64 bits hold it.
-#[tactic(auto, using(crate::proofs::Literals::digit_by_digit))]
+#[tactic(auto, using(crate::proofs::DigitNumbers::digit_by_digit))]
 fn word_of(digits: &[u8]) -> Option<u64>
     ensures { result ≡ natural_below (2 ^ 64) (pos (number_of digits.now)) }
 {

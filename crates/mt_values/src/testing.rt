@@ -1,20 +1,21 @@
 // Which values of a column meet a test: one match on the column's type, and then one loop for each literal over the
-// vector of that type.
-ghost use Rattle.std.specs.Prelude.{◌≡◌, ◌≤◌, ◌+◌, ◌||◌, Bool, IfOk, List, ℕ, length, map};
+// vector of that type. Among many literals each value is sought by bisection.
+ghost use Rattle.std.specs.Prelude.{◌≡◌, ◌≤◌, ◌+◌, ◌||◌, Bool, IfOk, List, ℕ, length, map, true};
 ghost use Rattle.std.specs.Cmp.Lexicographic.{slice_cmp};
 ghost use Rattle.std.specs.Ordering.{nat_cmp};
 ghost use Rattle.mt_values.specs.Cells.{value_of};
 ghost use Rattle.mt_values.specs.Columns.{cells_of};
 ghost use Rattle.mt_values.specs.Lists.{run_of};
 ghost use Rattle.mt_values.specs.Order.{value_cmp};
-ghost use Rattle.mt_values.specs.Tests.{meets, says};
+ghost use Rattle.mt_values.specs.Tests.{is_among, is_equal, meets, says};
 ghost use Rattle.mt_values.specs.declared.value.Value.{Value};
 
 use crate::column::Cells;
 use crate::eval::says;
+use crate::literals::FEW;
 use crate::sorting::cmp_cells;
 use crate::strings::Strings;
-use crate::{Cell, ColumnData, Comparison, Test, Value};
+use crate::{Cell, ColumnData, Comparison, Literals, Test, Value};
 use mt_base::NoMemory;
 use std::alloc::Global;
 
@@ -42,6 +43,9 @@ impl ColumnData {
         ensures { IfOk result
             (λ v. v.items ≡ map (meets test.now) (run_of from count self.now.values)) }
     {
+        if is_sought(test) {
+            return self.sought_within(alloc, &test.literals, from, count);
+        }
         let mut mask = vec![in alloc; false; count]?;
         for literal in test.literals.as_slice() {
             self.cells
@@ -49,6 +53,40 @@ impl ColumnData {
         }
         Ok(mask)
     }
+
+    /// Whether each value of a run is one of some literals: of so many values from a place on, counted from 0, in their order. Each is
+    /// sought by bisection.
+    ///
+    /// `NoMemory` where an allocation failed.
+    fn sought_within(
+        &self,
+        alloc: Global,
+        literals: &Literals,
+        from: usize,
+        count: usize,
+    ) -> Result<Vec<bool>, NoMemory>
+        requires { from + count ≤ length self.now.values }
+        ensures { IfOk result (λ v. v.items
+            ≡ map (is_among literals.now) (run_of from count self.now.values)) }
+    {
+        // The places are those of values, so 64 bits count them.
+        let values = self.len();
+        let mut mask = Vec::with_capacity(alloc, count)?;
+        for place in 0..count {
+            mask.push_reserved(literals.has(self.at(from + place)));
+        }
+        Ok(mask)
+    }
+}
+
+/// Whether each value of a column is sought among a test's literals: of IN, where they are many.
+fn is_sought(test: &Test) -> bool
+    ensures { result ≡ true → is_equal test.now.comparison ≡ true }
+{
+    if test.comparison.is_equal() {
+        return test.literals.len() > FEW;
+    }
+    false
 }
 
 impl Cells {

@@ -1,4 +1,5 @@
 pub mod Beside
 pub mod Lying
 pub mod Narrowing
+pub mod Sought
 pub mod Truths

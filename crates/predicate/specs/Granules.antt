@@ -1,6 +1,6 @@
 -- The boxes of granules, by the primary keys that are kept of them, and which granules a condition leaves (docs/definitions.md, "Boxes of granules").
-use Rattle.std.specs.Prelude.{ℕ, ◌==◌, Bool, false, List, [], ◌∷◌, length, map, pos, slice_get, Option, Some, None, if◌then◌else◌}
-use Rattle.std.specs.List.{range_with_len}
+use Rattle.std.specs.Prelude.{ℕ, ◌==◌, Bool, true, false, List, [], ◌∷◌, length, map, pos, slice_get, Option, Some, None, if◌then◌else◌}
+use Rattle.std.specs.List.{range_with_len, zip}
 use Rattle.std.specs.Ordering.{is_eq}
 use Rattle.mt_base.specs.declared.partition.Partition.{Partition}
 use Rattle.mt_base.specs.declared.partition.Partition.TheVariants.{Whole, Number}
@@ -68,3 +68,12 @@ chosen_in schema partition c keys = map (λ e. (can c e).yes) (boxes_of schema p
 -- whether the rows of each granule are asked: the condition may be false in its box (docs/definitions.md, "Boxes of granules")
 abbrev pub asked_in : Schema → Partition → Condition Test → List Row → List Bool
 asked_in schema partition c keys = map (λ e. (can c e).no) (boxes_of schema partition keys)
+
+-- a box, unless its granule is not chosen: then one that says nothing (docs/architecture.md, "The way of a SELECT")
+abbrev pub box_where : Bool → Extent → Extent
+box_where true e = e
+box_where false e = record { columns = [] }
+
+-- the same of each granule that has an answer (docs/architecture.md, "The way of a SELECT")
+abbrev pub boxes_where : List Extent → List Bool → List Extent
+boxes_where boxes chosen = map (λ p. box_where p.1 p.0) (zip boxes chosen)

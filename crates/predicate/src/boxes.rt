@@ -1,6 +1,7 @@
 // What a condition may be of rows that were not read, by what is known of their columns: docs/definitions.md, "Boxes".
 ghost use Rattle.std.specs.Prelude.{◌≡◌, ◌∷◌, List, not, slice_get};
 ghost use Rattle.std.specs.List.{list_all, list_any};
+ghost use Rattle.mt_values.specs.declared.expr.Comparison.TheVariants as comparison;
 ghost use Rattle.mt_values.specs.declared.expr.Joint.{Joint};
 ghost use Rattle.mt_values.specs.Polish.{ComesTo};
 ghost use Rattle.mt_values.specs.Tests.{meets};
@@ -8,7 +9,7 @@ ghost use Rattle.predicate.specs.Boxes.{box_of, by_box, can, can_of, can_some, n
 ghost use Rattle.predicate.specs.declared.extent.Can.{Can};
 
 use crate::extent::{Can, Extent, Known};
-use mt_values::{Comparison, Expr, Joint, Stack, Test, Value, cmp_value, meets};
+use mt_values::{Cell, Comparison, Expr, Joint, Literals, Stack, Test, Value, cmp_value, meets};
 
 /// What is known of the columns of some rows.
 #[derive(Clone, Copy)]
@@ -174,6 +175,11 @@ fn some_meets_within(test: &Test, least: &Value, greatest: &Value) -> bool
     ensures { result ≡ list_any (yes_within test.now.comparison least.now greatest.now)
         test.now.literals }
 {
+    if test.comparison.is_equal() {
+        let lo = Cell::of(least);
+        let hi = Cell::of(greatest);
+        return test.literals.any_within(lo, hi);
+    }
     test.literals.as_slice().iter().any(|literal| yes_within(
         test.comparison,
         least,
@@ -187,12 +193,26 @@ fn each_misses_within(test: &Test, least: &Value, greatest: &Value) -> bool
     ensures { result ≡ list_all (no_within test.now.comparison least.now greatest.now)
         test.now.literals }
 {
+    if test.comparison.is_equal() {
+        return are_no_literal(&test.literals, least, greatest);
+    }
     test.literals.as_slice().iter().all(|literal| no_within(
         test.comparison,
         least,
         greatest,
         literal,
     ))
+}
+
+// Whether the least and the greatest are not one and the same literal.
+fn are_no_literal(literals: &Literals, least: &Value, greatest: &Value) -> bool
+    ensures { result ≡ list_all (no_within comparison.Equal least.now greatest.now)
+        literals.now }
+{
+    if cmp_value(least, greatest).is_eq() {
+        return !literals.has(Cell::of(least));
+    }
+    true
 }
 
 // Whether a value from the least to the greatest may compare so with the literal.

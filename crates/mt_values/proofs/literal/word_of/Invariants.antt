@@ -1,7 +1,7 @@
 -- the number so far goes on to the number of all digits
 use Rattle.std.proofs.Common.{◌≡◌, ◌<◌, ◌^◌, drop}
 use Rattle.mt_values.specs.Rows.{number_of}
-use Rattle.mt_values.proofs.Literals.{number_after}
+use Rattle.mt_values.proofs.DigitNumbers.{number_after}
 use Rattle.mt_values.proofs.literal.word_of.Given as goal
 
 abbrev pub invariant-loop-digit : goal.invariant-loop-digit

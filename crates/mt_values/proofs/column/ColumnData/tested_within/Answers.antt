@@ -1,12 +1,24 @@
 use Rattle.std.proofs.Common.{◌≡◌, ◌∙◌, ◌||◌, ◌+◌, ap, arith, length, map, sym, take}
 use Rattle.std.proofs.lemmas.List.{length-map, take_all, with_items_is}
+use Rattle.std.proofs.lemmas.Result.{IfOk-weaker}
+use Rattle.mt_values.specs.declared.expr.Comparison.{Comparison}
+use Rattle.mt_values.specs.declared.expr.Comparison.TheVariants as comparison
 use Rattle.mt_values.specs.Columns.{cells_of}
 use Rattle.mt_values.specs.Grid.{Cells}
 use Rattle.mt_values.specs.Lists.{run_of}
 use Rattle.mt_values.specs.Order.{value_cmp}
 use Rattle.mt_values.specs.Tests.{says}
+use Rattle.mt_values.proofs.Searches.{equal_told}
 use Rattle.mt_values.proofs.Masks.{any_of, length_run, none_asked, one_literal_more}
 use Rattle.mt_values.proofs.column.ColumnData.tested_within.Goals as goal
+
+-- each value is sought among many literals
+pub returns-then-is_sought : goal.returns-then-is_sought
+returns-then-is_sought c =
+    let test = c.args.test.now in
+    let run = run_of c.args.from c.args.count c.args.self.now.values in
+    let equal : test.comparison ≡ comparison.Equal = equal_told test.comparison (c.is_sought.ensures c.if-is_sought.true) in
+    IfOk-weaker c.sought_within.result _ _ (λ v is. is ∙ ap (λ (how : Comparison). map (any_of how test.literals) run) (sym equal)) c.sought_within.ensures
 
 pub loop-literal-init : goal.loop-literal-init
 loop-literal-init c =
