@@ -1,5 +1,5 @@
 -- What is known of granules, place by place.
-use Rattle.std.proofs.Common.{◌≡◌, ℕ, zero, suc, ◌+◌, ◌-◌, ◌<◌, ◌≤◌, ◌==◌, Bool, true, false, cond, List, [], ◌∷◌, ◌++◌, All, IfSome, IfOk, Result, Ok, Err, Some, ◌⊎◌, inl, inr, ◌≢◌, refl, sym, ap, ap₂, ◌∙◌, length, map, drop, slice_get, get_or, option_and_then, option_map, subst, arith, add-one}
+use Rattle.std.proofs.Common.{◌≡◌, ℕ, zero, suc, ◌+◌, ◌-◌, ◌<◌, ◌≤◌, ◌==◌, Bool, true, false, cond, List, [], ◌∷◌, ◌++◌, All, IfSome, IfOk, Result, Ok, Err, Some, ◌⊎◌, inl, inr, ◌≢◌, refl, sym, ap, ap₂, ◌∙◌, length, map, drop, slice_get, get_or, option_and_then, option_map, subst, append_assoc, arith, add-one}
 use Rattle.std.specs.List.{range_with_len}
 use Rattle.std.specs.Ordering.{is_eq, is_ne}
 use Rattle.std.specs.declared.cmp.Ordering.{Ordering}
@@ -7,7 +7,7 @@ use Rattle.std.specs.declared.cmp.Ordering.TheVariants.{Less, Equal, Greater}
 use Rattle.std.proofs.lemmas.Bool.{eq-eqb}
 use Rattle.std.proofs.lemmas.Bool.Decides.{eqb_tells}
 use Rattle.mt_base.specs.declared.memory.NoMemory.{NoMemory}
-use Rattle.std.proofs.lemmas.List.{drop_all, drop_more}
+use Rattle.std.proofs.lemmas.List.{append-nil, drop_all, drop_more}
 use Rattle.std.proofs.lemmas.List.FromFn.{get_or-map-range_with_len, length-map-range_with_len, map-range_with_len_more}
 use Rattle.std.proofs.lemmas.Option.{get_or_from_slice_get, slice_get-get_or, slice_get-map, slice_get_within}
 use Rattle.mt_base.specs.declared.partition.Partition.{Partition}
@@ -18,7 +18,7 @@ use Rattle.mt_values.specs.Conditions.{Condition}
 use Rattle.mt_values.specs.Order.{value_cmp}
 use Rattle.mt_values.specs.Values.{Row}
 use Rattle.predicate.specs.Boxes.{can}
-use Rattle.predicate.specs.Granules.{asked_in, box_between, boxes_of, chosen_in, key_ranges, known_among, known_at}
+use Rattle.predicate.specs.Granules.{asked_in, box_between, box_where, boxes_of, boxes_where, chosen_in, key_ranges, known_among, known_at}
 use Rattle.predicate.specs.declared.extent.Can.{Can}
 use Rattle.predicate.specs.declared.extent.Extent.{Extent}
 use Rattle.predicate.specs.declared.extent.Known.{Known}
@@ -110,6 +110,50 @@ pub box_is : (schema : Schema) (partition : Partition) (keys : List Row) (granul
 box_is schema partition keys granule ranges e are is =
     ap (λ (ks : List Known). let f : Extent = record { columns = ks } in f)
     (is ∙ ap (λ (ks : List Known). map (known_at schema partition ks) (range_with_len 0 (length schema.columns))) are)
+
+pub box_count : (schema : Schema) (partition : Partition) (keys : List Row) → length (boxes_of schema partition keys) ≡ length keys - 1
+box_count schema partition keys = ap length (boxes_by_place schema partition keys) ∙ length-map-range_with_len (box_at schema partition keys) 0 (length keys - 1)
+
+-- ---- boxes of chosen granules
+
+module _ (boxes : List Extent) (chosen : List Bool) where
+  -- those of the granules gone over, and those that are left
+  abbrev pub BoxesFrom : List Extent → ℕ → Type 0
+  BoxesFrom made i = made ++ boxes_where (drop i boxes) (drop i chosen) ≡ boxes_where boxes chosen
+
+  -- one granule more
+  pub boxes_more : (made new : List Extent) (i : ℕ) (b e : Extent) (c : Bool) → BoxesFrom made i → i < length chosen → c ≡ get_or chosen i c → slice_get boxes i ≡ Some b
+      → e ≡ box_where c b → new ≡ made ++ e ∷ [] → BoxesFrom new (i + 1)
+  boxes_more made new i b e c so_far below answer there is grown =
+      let rest = boxes_where (drop (i + 1) boxes) (drop (i + 1) chosen) in
+      let left : drop i boxes ≡ b ∷ drop (i + 1) boxes =
+      drop_more boxes i b (slice_get_within boxes i b there) ∙ ap (λ (x : Extent). x ∷ drop (i + 1) boxes) (get_or_from_slice_get boxes i b b there) in
+      let answers : drop i chosen ≡ c ∷ drop (i + 1) chosen =
+      drop_more chosen i c below ∙ ap (λ (x : Bool). x ∷ drop (i + 1) chosen) (sym answer) in
+      ap (λ (xs : List Extent). xs ++ rest) grown
+      ∙ append_assoc made (e ∷ []) rest
+      ∙ ap (λ (x : Extent). made ++ x ∷ rest) is
+      ∙ ap₂ (λ (bs : List Extent) (cs : List Bool). made ++ boxes_where bs cs) (sym left) (sym answers)
+      ∙ so_far
+
+  -- past the last granule
+  pub boxes_past : (made : List Extent) (i : ℕ) → BoxesFrom made i → length boxes ≤ i → made ≡ boxes_where boxes chosen
+  boxes_past made i so_far end =
+      sym (append-nil made)
+      ∙ ap (λ (bs : List Extent). made ++ boxes_where bs (drop i chosen)) (sym (drop_all i boxes end))
+      ∙ so_far
+
+  -- past the last answer
+  pub boxes_all : (made : List Extent) (i : ℕ) → BoxesFrom made i → length chosen ≤ i → made ≡ boxes_where boxes chosen
+  boxes_all made i so_far end =
+      sym (append-nil made)
+      ∙ ap (λ (bs : List Extent). made ++ bs) (sym (none (drop i boxes)))
+      ∙ ap (λ (cs : List Bool). made ++ boxes_where (drop i boxes) cs) (sym (drop_all i chosen end))
+      ∙ so_far
+    where
+      none : (bs : List Extent) → boxes_where bs [] ≡ []
+      none [] = refl
+      none (b ∷ bs) = refl
 
 -- ---- ranges
 

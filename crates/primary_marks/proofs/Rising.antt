@@ -1,5 +1,5 @@
 -- Values that rise, and how many of them pass a test that none passes which stands after one that fails it.
-use Rattle.std.proofs.Common.{◌≡◌, ℕ, zero, suc, ◌+◌, ◌<◌, ◌≤◌, ◌⊎◌, inl, inr, Bool, true, false, not, cond, List, [], ◌∷◌, All, Some, refl, sym, ap, ap₂, ◌∙◌, subst, length, slice_get, get_or, option_and_then, arith}
+use Rattle.std.proofs.Common.{◌≡◌, ℕ, zero, suc, ◌+◌, ◌<◌, ◌≤◌, ◌⊎◌, inl, inr, Bool, true, false, not, cond, List, [], ◌∷◌, Some, refl, sym, ap, ap₂, ◌∙◌, subst, length, slice_get, get_or, option_and_then, arith}
 use Rattle.std.specs.List.{filter, list_any}
 use Rattle.std.specs.List.Sorted.{IsSorted, IsSortedWithin}
 use Rattle.std.proofs.lemmas.Bool.{cases_lt}

@@ -1,8 +1,8 @@
 -- Outside of the span that it leaves a condition is true of no row of a granule, and false of some.
-use Rattle.std.proofs.Common.{◌≡◌, ◌↔◌, IsTrue, ℕ, ◌+◌, ◌-◌, ◌<◌, ◌≤◌, ◌==◌, ◌⊎◌, inl, inr, Bool, true, false, not, ◌&&◌, ◌||◌, cond, nat_lt, List, [], ◌∷◌, Option, Some, refl, sym, ap, ap₂, ◌∙◌, subst, length, map, max, min, slice_get, option_map, arith}
+use Rattle.std.proofs.Common.{◌≡◌, ◌↔◌, IsTrue, ℕ, ◌+◌, ◌-◌, ◌<◌, ◌≤◌, ◌⊎◌, inl, inr, Bool, true, false, not, ◌&&◌, ◌||◌, cond, nat_lt, List, [], ◌∷◌, Some, refl, sym, ap, ap₂, ◌∙◌, subst, length, max, min, slice_get, option_map, arith}
 use Rattle.std.proofs.lemmas.Bool.{cases_lt, ltb-true}
 use Rattle.std.specs.List.{list_any, range_with_len}
-use Rattle.std.specs.Ordering.{is_eq, is_ge, is_le}
+use Rattle.std.specs.Ordering.{is_le}
 use Rattle.std.proofs.lemmas.Cmp.{tied_itself}
 use Rattle.std.proofs.lemmas.Option.{slice_get-map}
 use Rattle.mt_base.specs.declared.partition.Partition.{Partition}
@@ -19,7 +19,7 @@ use Rattle.mt_values.specs.Tests.{meets}
 use Rattle.mt_values.specs.Values.{Row}
 use Rattle.mt_values.proofs.Orders.{value_total}
 use Rattle.predicate.specs.Boxes.{IsKnown, can, can_of, can_some, yes_within}
-use Rattle.predicate.specs.Granules.{key_ranges, known_among, known_at, known_number, parts_at}
+use Rattle.predicate.specs.Granules.{key_ranges, known_among, known_at, known_number}
 use Rattle.predicate.specs.declared.extent.Can.{Can}
 use Rattle.predicate.specs.declared.extent.Extent.{Extent}
 use Rattle.predicate.specs.declared.extent.Known.{Known}
@@ -27,7 +27,7 @@ use Rattle.predicate.specs.declared.extent.Known.TheVariants as known
 use Rattle.predicate.proofs.Lying.{any_too, known_no, known_yes}
 use Rattle.primary_marks.specs.Choosing.{key_at}
 use Rattle.primary_marks.specs.Rising.{RiseByFirst}
-use Rattle.primary_marks.specs.Spans.{IsOutside, MissesOutside, all_of, by_spans, common, count_before, from_on, is_first, is_numbered, leads, left_by, missed, part_boxes, span_by, stands_before, up_to}
+use Rattle.primary_marks.specs.Spans.{IsOutside, MissesOutside, all_of, by_spans, common, count_before, from_on, is_first, is_numbered, leads, left_by, missed, part_boxes, stands_before, up_to}
 use Rattle.primary_marks.specs.declared.spans.Edge.TheVariants as edge
 use Rattle.primary_marks.specs.declared.spans.PartKeys.{PartKeys}
 use Rattle.primary_marks.specs.declared.spans.Span.{Span}

@@ -1,5 +1,5 @@
 -- Keys whose first values rise (docs/architecture.md, "Spans of granules").
-use Rattle.std.specs.Prelude.{ℕ, ◌<◌, List, [], ◌∷◌, length, All}
+use Rattle.std.specs.Prelude.{◌<◌, List, [], ◌∷◌, length, All}
 use Rattle.std.specs.List.Sorted.{IsSorted}
 use Rattle.mt_values.specs.Grid.{Cells, column_of}
 use Rattle.mt_values.specs.Order.{value_cmp}

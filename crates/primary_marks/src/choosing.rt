@@ -3,11 +3,11 @@
 // A granule's rows stand between its first key and the next one. Up to and with the first column in which these two differ, the
 // values of the key's columns lie between theirs; of the columns after it the keys say nothing. The partition column has the
 // partition's number in each row.
-ghost use Rattle.std.specs.Prelude.{◌≡◌, ◌<◌, IfOk, Some, length, map, pos, slice_get};
+ghost use Rattle.std.specs.Prelude.{◌≡◌, ◌<◌, ◌+◌, IfOk, Some, length, map, pos, slice_get};
 ghost use Rattle.std.specs.List.{range_with_len};
 ghost use Rattle.mt_values.specs.Literals.{number_value};
 ghost use Rattle.predicate.specs.Boxes.{can};
-ghost use Rattle.predicate.specs.Granules.{asked_in, chosen_in, key_ranges, known_among, known_at, known_value};
+ghost use Rattle.predicate.specs.Granules.{box_between, box_where, boxes_of, boxes_where, chosen_in, key_ranges, known_among, known_at, known_value};
 ghost use Rattle.primary_marks.specs.Choosing.{key_at};
 ghost use Rattle.primary_marks.specs.Spans.{part_boxes};
 
@@ -138,31 +138,58 @@ pub fn choose(
     Ok(chosen)
 }
 
-/// Whether each granule of a partition's part may have a row of which the condition is false, by the primary keys that are kept of
-/// the part. In the others each row meets it.
+/// The boxes of the chosen granules of a partition's part, by the primary keys that are kept of the part, each at its granule's place; of
+/// another granule there is one that says nothing. So many conditions are asked of boxes that are made once.
 ///
 /// `NoMemory` where an allocation failed.
-pub fn unsure(
+pub fn boxes_where(
     alloc: Global,
     schema: &Schema,
     partition: &Partition,
-    condition: &Expr<Test>,
     marks: &Marks,
-) -> Result<Vec<bool>, NoMemory>
-    ensures { IfOk result
-        (λ v. v.items ≡ asked_in schema.now partition.now condition.now marks.now) }
+    chosen: &[bool],
+) -> Result<Seq<Extent>, NoMemory>
+    ensures { IfOk result (λ boxes. boxes
+        ≡ boxes_where (boxes_of schema.now partition.now marks.now) chosen.now) }
 {
     let part = PartKeys {
         schema,
         partition,
         marks,
     };
-    let answers = answers(alloc, &part, condition)?;
-    let mut asked = Vec::with_capacity(alloc, answers.len())?;
-    for answer in &answers {
-        asked.push_reserved(answer.no);
+    let granules = marks.granules();
+    let mut boxes = Seq::new(alloc);
+    for (granule, is_chosen) in chosen.iter().enumerate() {
+        if granule >= granules {
+            return Ok(boxes);
+        }
+        boxes.push(granule_box(alloc, &part, granule, *is_chosen)?)?;
     }
-    Ok(asked)
+    Ok(boxes)
+}
+
+/// The box of a granule, where it is chosen; else one that says nothing.
+///
+/// `NoMemory` where an allocation failed.
+fn granule_box(
+    alloc: Global,
+    part: &PartKeys,
+    granule: usize,
+    is_chosen: bool,
+) -> Result<Extent, NoMemory>
+    requires { granule + 1 < length part.now.marks.now }
+    ensures { IfOk result (λ e. e ≡ box_where is_chosen
+        (box_between part.now.schema.now part.now.partition.now
+        (key_at part.now.marks.now granule) (key_at part.now.marks.now (granule + 1)))) }
+{
+    if is_chosen {
+        // The place after the granule's is that of a key, so 64 bits count it.
+        let keys = part.marks.len();
+        let own = KeyRanges::between(part.marks, granule, granule + 1);
+        return box_within(alloc, part.schema, part.partition, &own);
+    }
+    let columns = Seq::new(alloc);
+    Ok(Extent { columns })
 }
 
 /// What the condition may be in the box of each granule. Those outside of its span are not asked.

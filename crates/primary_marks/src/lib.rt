@@ -10,7 +10,7 @@ mod reading;
 mod spans;
 
 pub use building::{build, spell};
-pub use choosing::{choose, unsure};
+pub use choosing::{boxes_where, choose};
 pub use column_file;
 pub use column_file::byte_numbers::FormatFault;
 pub use laws::{

@@ -101,7 +101,7 @@ impl Twin for Marks {
     fn twin(&self, alloc: Global) -> Result<Self, NoMemory> {
         let mut columns = Vec::new(alloc);
         for column in &self.columns {
-            columns.push(column_twin(alloc, column)?)?;
+            columns.push(column.twin(alloc)?)?;
         }
         Ok(Marks {
             columns,
@@ -131,17 +131,4 @@ fn rises(column: &ColumnData) -> bool
         }
     }
     true
-}
-
-/// An equal column.
-///
-/// `NoMemory` where an allocation failed.
-fn column_twin(alloc: Global, column: &ColumnData) -> Result<ColumnData, NoMemory>
-    ensures { IfOk result (λ c. c ≡ column.now) }
-{
-    let mut copy = ColumnData::new(alloc, column.col_type());
-    for place in 0..column.len() {
-        copy.push_cell(column.at(place))?;
-    }
-    Ok(copy)
 }

@@ -213,6 +213,9 @@ fn some_up_to(test: &Test, cell: Cell) -> bool
     ensures { result ≡ list_any (up_to test.now.comparison (value_of cell.entry))
         test.now.literals }
 {
+    if test.comparison.is_equal() {
+        return test.literals.any_up_to(cell);
+    }
     test.literals
         .as_slice()
         .iter()
@@ -224,6 +227,9 @@ fn some_from_on(test: &Test, cell: Cell) -> bool
     ensures { result ≡ list_any (from_on test.now.comparison (value_of cell.entry))
         test.now.literals }
 {
+    if test.comparison.is_equal() {
+        return test.literals.any_from_on(cell);
+    }
     test.literals
         .as_slice()
         .iter()

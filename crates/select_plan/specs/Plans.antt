@@ -1,5 +1,5 @@
 -- Which granules of a table's parts are read, and how many they are (docs/definitions.md, "Boxes of granules", "Boxes of skip indexes").
-use Rattle.std.specs.Prelude.{[], Bool, true, false, List, fold, length, map}
+use Rattle.std.specs.Prelude.{[], ◌∷◌, Bool, true, false, List, fold, length, map}
 use Rattle.std.specs.List.{count_by, list_any, sum_by}
 use Rattle.mt_values.specs.declared.expr.Test.{Test}
 use Rattle.mt_values.specs.declared.schema.Schema.{Schema}
@@ -27,18 +27,23 @@ read_of schema false c k = planned_part schema c k
 abbrev pub planned : {F : Type 0} → Snap (Part F) → Bool → Condition Test → List (List Bool)
 planned {F} snap is_final c = map (λ (k : Kept (Part F)). read_of snap.schema is_final c k) snap.parts.items
 
+-- in which granules of a part conjuncts are asked: of those that are read the ones in whose box the conjunct may be false (docs/definitions.md, "Boxes of granules")
+abbrev pub asked_among : {F : Type 0} → Schema → List (Condition Test) → Kept (Part F) → List Bool → List (List Bool)
+asked_among schema conjuncts k chosen = map (λ d. both (asked_in schema k.name.partition d k.part.loaded.marks) chosen) conjuncts
+
+-- the same of each part, of whose granules these are read (docs/definitions.md, "Boxes of granules")
+abbrev pub asked_each : {F : Type 0} → Schema → List (Condition Test) → List (Kept (Part F)) → List (List Bool) → List (List (List Bool))
+asked_each schema conjuncts [] chosen = []
+asked_each schema conjuncts (k ∷ ks) [] = []
+asked_each schema conjuncts (k ∷ ks) (c ∷ cs) = asked_among schema conjuncts k c ∷ asked_each schema conjuncts ks cs
+
 -- in which granules of a part a conjunct of a condition is asked: of those that are read the ones in whose box it may be false (docs/definitions.md, "Boxes of granules")
 abbrev pub asked_of : {F : Type 0} → Schema → Condition Test → Kept (Part F) → Condition Test → List Bool
 asked_of schema c k d = both (asked_in schema k.name.partition d k.part.loaded.marks) (planned_part schema c k)
 
--- the same of each conjunct; with FINAL the condition is asked of folded rows, and no conjunct of stored ones (docs/definitions.md, "Boxes of granules")
-abbrev pub asked_part : {F : Type 0} → Schema → Bool → Condition Test → Kept (Part F) → List (List Bool)
-asked_part schema true c k = []
-asked_part schema false c k = map (asked_of schema c k) (conjuncts_of c)
-
--- the same of each part of a pinned table (docs/definitions.md, "Boxes of granules")
-abbrev pub asked_over : {F : Type 0} → Snap (Part F) → Bool → Condition Test → List (List (List Bool))
-asked_over {F} snap is_final c = map (λ (k : Kept (Part F)). asked_part snap.schema is_final c k) snap.parts.items
+-- the same of each conjunct (docs/definitions.md, "Boxes of granules")
+abbrev pub asked_part : {F : Type 0} → Schema → Condition Test → Kept (Part F) → List (List Bool)
+asked_part schema c k = map (asked_of schema c k) (conjuncts_of c)
 
 -- how many parts and granules there are, and how many of them are read (docs/definitions-of-runs.md, "Explained reads")
 abbrev pub counts_over : List (List Bool) → Counts

@@ -1,15 +1,14 @@
 // Making a plan: of each part of a pinned table which granules are read. A granule is read where the condition may be true in the box
 // of its marks and, without FINAL, for each skip index of the part in the box of its block. Each box is asked by itself
 // (docs/definitions.md, "Boxes of granules" and "Boxes of skip indexes"). Without a condition every granule is read, and no box is made.
-// A conjunct of the condition is asked in those of these granules in the box of whose marks it may be false; with FINAL in none, since it
-// is asked of folded rows.
-ghost use Rattle.std.specs.Prelude.{◌≡◌, ◌-◌, [], ℕ, IfOk, false, fold, length, map, min, replicate, true};
-ghost use Rattle.mt_values.specs.Conditions.{conjuncts_of, tests_of};
+// Without FINAL a conjunct of the condition is asked in those of these granules in the box of whose marks it may be false. With FINAL
+// the condition is asked of folded rows.
+ghost use Rattle.std.specs.Prelude.{◌≡◌, ◌-◌, ◌&&◌, [], ℕ, IfOk, false, fold, length, map, min, replicate, true};
+ghost use Rattle.mt_values.specs.Conditions.{tests_of};
 ghost use Rattle.mt_values.specs.declared.schema.Schema.{Schema};
 ghost use Rattle.mt_model.specs.predicate.Boxes.{can};
-ghost use Rattle.mt_model.specs.predicate.Granules.{asked_in};
 ghost use Rattle.mt_model.specs.predicate.Masks.{both};
-ghost use Rattle.select_plan.specs.Plans.{asked_over, planned, read_of};
+ghost use Rattle.select_plan.specs.Plans.{asked_among, planned, read_of};
 ghost use Rattle.mt_model.specs.predicate.declared.extent.Extent.{Extent};
 ghost use Rattle.part_reader.specs.skip_index.Choosing.{chosen_by};
 ghost use Rattle.part_reader.specs.skip_index.declared.index.Index.{Index};
@@ -17,18 +16,17 @@ ghost use Rattle.part_reader.specs.skip_index.declared.index.Index.{Index};
 use crate::counting::Plan;
 use mt_base::{NoMemory, Seq};
 use mt_model::Query;
-use mt_model::predicate::{Extent, may_match};
+use mt_model::predicate::{Extent, can, may_match};
 use mt_values::{Expr, Schema, Test};
 use part_reader::Part;
 use part_reader::part_writer::Loaded;
-use part_reader::primary_marks::{choose, unsure};
+use part_reader::primary_marks::{boxes_where, choose};
 use part_reader::skip_index::choose as choose_by_index;
 use part_set::{Kept, Snap};
 use std::alloc::Global;
 
 /// The granules of a pinned table that a SELECT reads: those in whose boxes its condition may be true, by the marks of their part and,
-/// without FINAL, by each of its skip indexes. A part without rows has none. Without FINAL a conjunct is asked in those of them in whose
-/// box, by the marks, it may be false.
+/// without FINAL, by each of its skip indexes. A part without rows has none.
 ///
 /// `NoMemory` where an allocation failed.
 pub fn plan<F>(
@@ -37,54 +35,71 @@ pub fn plan<F>(
     query: &Query,
     is_final: bool,
 ) -> Result<Plan, NoMemory>
-    ensures parts { IfOk result
+    ensures { IfOk result
         (λ p. p.parts.items ≡ planned snap.now is_final query.now.condition) }
-    ensures conjuncts { IfOk result (λ p. p.conjuncts.items ≡ conjuncts_of query.now.condition) }
-    ensures asked { IfOk result
-        (λ p. p.asked.items ≡ asked_over snap.now is_final query.now.condition) }
 {
-    let conjuncts = query.condition.conjuncts(alloc)?;
     let mut parts = Vec::with_capacity(alloc, snap.parts.len())?;
-    let mut asked = Vec::with_capacity(alloc, snap.parts.len())?;
     for kept in &snap.parts {
         let chosen = plan_part(alloc, &snap.schema, kept, &query.condition, is_final)?;
-        asked.push(ask(alloc, &snap.schema, kept, &conjuncts, &chosen, is_final)?)?;
         parts.push(Seq::of(chosen))?;
     }
-    Ok(Plan {
-        parts,
-        conjuncts,
-        asked,
-    })
+    Ok(Plan { parts })
 }
 
-/// Of each conjunct in which of a part's chosen granules it is asked: those in whose box, by the marks, it may be false. With FINAL none
-/// is asked.
+/// Of each conjunct of a condition in which of a part's chosen granules it is asked: those in whose box, by the marks, it may be false.
+/// It is found when the part is read, and not kept with the plan: it may be long, where conjuncts and granules are many.
 ///
 /// `NoMemory` where an allocation failed.
-fn ask<F>(
+pub fn ask<F>(
     alloc: Global,
     schema: &Schema,
     kept: &Kept<Part<F>>,
     conjuncts: &[Expr<Test>],
     chosen: &[bool],
-    is_final: bool,
 ) -> Result<Seq<Seq<bool>>, NoMemory>
-    ensures plain { is_final ≡ false → IfOk result (λ asked. asked ≡ map (λ d. both
-        (asked_in schema.now kept.now.name.partition d kept.now.part.loaded.marks) chosen.now)
-        conjuncts.now) }
-    ensures folded { is_final ≡ true → IfOk result (λ asked. asked ≡ []) }
+    ensures { IfOk result
+        (λ asked. asked ≡ asked_among schema.now conjuncts.now kept.now chosen.now) }
 {
-    let mut asked = Seq::new(alloc);
-    if is_final {
-        return Ok(asked);
-    }
+    let marks = &kept.part.loaded.marks;
+    let boxes = boxes_where(alloc, schema, &kept.name.partition, marks, chosen)?;
+    let mut asked = Seq::with_capacity(alloc, conjuncts.len())?;
     for conjunct in conjuncts {
-        let marks = &kept.part.loaded.marks;
-        let own = unsure(alloc, schema, &kept.name.partition, conjunct, marks)?;
-        asked.push(Seq::of(both(alloc, &own, chosen)?))?;
+        let own = unsure(alloc, conjunct, boxes.as_slice(), chosen)?;
+        asked.push(Seq::of(own))?;
     }
     Ok(asked)
+}
+
+/// Whether a condition may be false in each of these boxes, where its granule is chosen.
+///
+/// `NoMemory` where an allocation failed.
+fn unsure(
+    alloc: Global,
+    condition: &Expr<Test>,
+    boxes: &[Extent],
+    chosen: &[bool],
+) -> Result<Vec<bool>, NoMemory>
+    ensures { IfOk result
+        (λ v. v.items ≡ both (map (λ e. (can condition.now e).no) boxes.now) chosen.now) }
+{
+    let mut answers = Vec::with_capacity(alloc, boxes.len())?;
+    for (place, extent) in boxes.iter().enumerate() {
+        let Some(is_chosen) = chosen.get(place) else {
+            return Ok(answers);
+        };
+        answers.push(is_unsure(condition, extent, *is_chosen))?;
+    }
+    Ok(answers)
+}
+
+/// Whether a condition may be false in a box, where its granule is chosen.
+fn is_unsure(condition: &Expr<Test>, extent: &Extent, is_chosen: bool) -> bool
+    ensures { result ≡ ((can condition.now extent.now).no && is_chosen) }
+{
+    if is_chosen {
+        return can(condition, extent).no;
+    }
+    false
 }
 
 /// The granules of a part that a SELECT reads.

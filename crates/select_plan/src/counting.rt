@@ -6,17 +6,12 @@ ghost use Rattle.select_plan.specs.Plans.{counts_over};
 
 use mt_base::Seq;
 use mt_model::Counts;
-use mt_values::{Expr, Test};
 
-/// Which granules are read, and in which of them each conjunct of the condition is asked.
+/// Which granules are read.
 #[derive(Drop)]
 pub struct Plan {
     /// For each part of a pinned table, in its order, whether each of its granules is read.
     pub parts: Vec<Seq<bool>>,
-    /// The conjuncts of the condition, in the order of the text.
-    pub conjuncts: Vec<Expr<Test>>,
-    /// For each part, of each conjunct, whether it is asked in each granule.
-    pub asked: Vec<Seq<Seq<bool>>>,
 }
 
 impl Plan {

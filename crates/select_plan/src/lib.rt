@@ -5,6 +5,6 @@ mod choosing;
 mod counting;
 mod laws;
 
-pub use choosing::plan;
+pub use choosing::{ask, plan};
 pub use counting::Plan;
 pub use laws::{folded_matches_are_chosen, granules_are_read_where_each_box_may_match};

@@ -1,4 +1,4 @@
-use Rattle.std.proofs.Common.{◌+◌, ap, sym, ◌∙◌, arith, false, get_or, map}
+use Rattle.std.proofs.Common.{◌+◌, ap, ◌∙◌, false, get_or, map}
 use Rattle.std.proofs.lemmas.List.{get_or_default, take_all}
 use Rattle.predicate.specs.Boxes.{can}
 use Rattle.predicate.specs.Granules.{boxes_of}

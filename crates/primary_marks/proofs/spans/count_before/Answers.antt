@@ -1,4 +1,4 @@
-use Rattle.std.proofs.Common.{◌≡◌, [], ◌+◌, ◌-◌, ◌/◌, ◌<◌, ◌≤◌, Some, length, slice_get, sym, ◌∙◌, arith}
+use Rattle.std.proofs.Common.{◌≡◌, [], ◌+◌, ◌-◌, ◌/◌, ◌<◌, Some, length, slice_get, sym, ◌∙◌, arith}
 use Rattle.mt_values.specs.Cells.{value_of}
 use Rattle.mt_values.specs.Grid.{column_of}
 use Rattle.primary_marks.specs.Spans.{stands_before}

@@ -1,7 +1,7 @@
 use Rattle.std.proofs.Common.{◌≡◌, ◌∙◌, ◌<◌, ◌++◌, ◌∷◌, [], Bool, List, ap, ap₂, arith, get_or, length, map}
 use Rattle.std.proofs.lemmas.List.{take_all}
-use Rattle.select_plan.specs.Plans.{asked_part, read_of}
-use Rattle.select_plan.proofs.Planning.{asked_is, map_next}
+use Rattle.select_plan.specs.Plans.{read_of}
+use Rattle.select_plan.proofs.Planning.{map_next}
 use Rattle.select_plan.proofs.choosing.plan.Goals as goal
 
 pub loop-kept-preserved : goal.loop-kept-preserved
@@ -16,30 +16,13 @@ loop-kept-preserved g c =
     let below : i < length parts = omega (arith, c.loop-kept-test.true, ap length same) in
     let is : kept ≡ get_or parts i kept = c.kept-item.is ∙ ap (λ ks. get_or ks i kept) same in
     let chosen : c.in_ok-chosen.chosen.items ≡ read_of schema is_final condition kept = c.in_ok-chosen.ensures in
-    let asked : c.in_ok-ask.field-0 ≡ asked_part schema is_final condition kept =
-    asked_is schema is_final condition kept c.deref-in-loop-kept.result.now c.deref.result.now c.in_ok-ask.field-0
-    (c.deref-in-loop-kept.ensures.value ∙ chosen) (c.deref.ensures.value ∙ c.in_ok-conjuncts.ensures) c.in_ok-ask.ensures.plain c.in_ok-ask.ensures.folded in
-    record {
-      parts =
-          c.in_ok-push-2.ensures.items
-          ∙ ap₂ (λ (ps : List (List Bool)) (p : List Bool). ps ++ p ∷ []) c.loop-kept.invariant.parts (c.of.ensures ∙ chosen)
-          ∙ map_next (read_of schema is_final condition) parts i kept below is;
-      asked =
-          c.in_ok-push.ensures.items
-          ∙ ap₂ (λ (ps : List (List (List Bool))) (p : List (List Bool)). ps ++ p ∷ []) c.loop-kept.invariant.asked asked
-          ∙ map_next (asked_part schema is_final condition) parts i kept below is;
-    }
+    c.in_ok-push.ensures.items
+    ∙ ap₂ (λ (ps : List (List Bool)) (p : List Bool). ps ++ p ∷ []) c.loop-kept.invariant (c.of.ensures ∙ chosen)
+    ∙ map_next (read_of schema is_final condition) parts i kept below is
 
-pub returns-clause-parts : goal.returns-clause-parts
-returns-clause-parts g c =
+pub returns : goal.returns
+returns g c =
     let parts = c.args.snap.now.parts.items in
-    c.loop-kept.invariant.parts
+    c.loop-kept.invariant
     ∙ ap (map (read_of c.args.snap.now.schema c.args.is_final c.args.query.now.condition))
-    (take_all c.loop-kept.kept-index parts (omega (arith, c.loop-kept-test.false, ap length c.deref-kept-items.ensures.value)))
-
-pub returns-clause-asked : goal.returns-clause-asked
-returns-clause-asked g c =
-    let parts = c.args.snap.now.parts.items in
-    c.loop-kept.invariant.asked
-    ∙ ap (map (asked_part c.args.snap.now.schema c.args.is_final c.args.query.now.condition))
     (take_all c.loop-kept.kept-index parts (omega (arith, c.loop-kept-test.false, ap length c.deref-kept-items.ensures.value)))
