@@ -30,7 +30,7 @@ use Rattle.mt_model.specs.declared.refusal.Refusal.TheVariants as refusal
 use Rattle.mt_model.specs.declared.refusal.Room.TheVariants as room
 use Rattle.mt_values.specs.Grammar.{columns_of}
 use Rattle.mt_model.specs.Clauses.{column_place, first_key, first_unknown, names_of_text, schema_of_create}
-use Rattle.mt_model.specs.Reply.{found_or, place_onto, places_of, first_passed, first_refusal, refusal_of_rules, refusal_of_schema, refusal_of_text, too_many_elements, unknown_column, unless_refused, schema_of_text, create_turn, rows_or_refused, rows_for, insert_turn, selected_places}
+use Rattle.mt_model.specs.Reply.{found_or, place_onto, places_of, first_passed, first_refusal, refusal_of_rules, refusal_of_schema, refusal_of_text, too_many_elements, unknown_column, unless_refused, schema_of_text, create_turn, rows_or_refused, rows_for, insert_turn, number_turn, selected_places}
 use Rattle.mt_model.specs.Queries.{asked_with, first_alien, place_in, query_for, query_of, query_of_select, refusal_of_condition, refusal_of_test, refusal_of_tests, type_at}
 use Rattle.mt_model.specs.declared.query.Query.{Query}
 use Rattle.mt_values.specs.declared.statement.Statement.{Statement}
@@ -158,10 +158,14 @@ full_tells parts drawn accepted why is = by (nat_le 3000 parts) (nat_le 42949672
     by false true e = let same : refusal.Full room.Numbers accepted ≡ why = cc in subst OfScript same (inl (omega arith))
     by false false e = cc
 
+numbers_tell : (drawn accepted : ℕ) (why : Refusal) → number_turn drawn accepted ≡ Some why → OfScript why
+numbers_tell drawn accepted why is = full_tells 0 drawn accepted why is
+
 -- a turn that refuses does so for what the script says
 pub turn_tells : (h : History) (accepted : ℕ) (c : Command) (why : Refusal) → TurnRefuses h accepted c why → OfScript why
 turn_tells h accepted (command.Create c) why turn = (told (create_turn c.table h) why turn (create_turn_tells c.table h)).0
 turn_tells h accepted (command.Insert i) why turn = full_tells turn.0 (last_number i.table h) accepted why turn.2
+turn_tells h accepted (command.Alter a) why turn = numbers_tell (last_number a.table h) accepted why turn
 
 selected_tells : (columns : List Column) (which : Selected) → Scripted (selected_places columns which)
 selected_tells columns selected.All = tt

@@ -25,7 +25,7 @@ use Rattle.mt_model.specs.Numbers.{last_number}
 use Rattle.mt_model.specs.Refusals.{accepted_by}
 use Rattle.mt_model.specs.Queries.{query_for, query_of_select}
 use Rattle.mt_model.specs.declared.query.Query.{Query}
-use Rattle.mt_model.specs.Reply.{create_turn, insert_turn, rows_for, schema_of_text}
+use Rattle.mt_model.specs.Reply.{create_turn, insert_turn, number_turn, rows_for, schema_of_text}
 use Rattle.mt_model.specs.Session.{TurnRefuses}
 use Rattle.mt_model.proofs.Histories.{inserts_more, last_more, schema_kept}
 
@@ -130,6 +130,7 @@ commands_kept h more (statement.Optimize t) cs is = by (schema_of t.table h) ref
 abbrev pub IsInsert : Command → Type 0
 IsInsert (command.Create c) = ⊥
 IsInsert (command.Insert i) = Unit {0}
+IsInsert (command.Alter a) = ⊥
 
 all_inserts : (schema : Schema) (table : List ℕ) (rows : List Row) (ps : List Partition) → AllByRecursion IsInsert (map (insert_command schema table rows) ps)
 all_inserts schema table rows [] = tt
@@ -182,10 +183,12 @@ create_counts table h =
     counts_if (is_some (schema_of table h)) 0 (Some (refusal.TableExists table)) (cond (nat_lt (creates h) 64) None (Some (refusal.Past bound.Tables))) refl
     (counts_if (nat_lt (creates h) 64) 0 None (Some (refusal.Past bound.Tables)) tt refl)
 
+number_counts : (drawn accepted : ℕ) → Counts accepted (number_turn drawn accepted)
+number_counts drawn accepted = counts_if (nat_le 4294967295 drawn) accepted (Some (refusal.Full room.Numbers accepted)) None refl tt
+
 insert_counts : (parts drawn accepted : ℕ) → Counts accepted (insert_turn parts drawn accepted)
 insert_counts parts drawn accepted =
-    counts_if (nat_le 3000 parts) accepted (Some (refusal.Full room.Parts accepted)) (cond (nat_le 4294967295 drawn) (Some (refusal.Full room.Numbers accepted)) None) refl
-    (counts_if (nat_le 4294967295 drawn) accepted (Some (refusal.Full room.Numbers accepted)) None refl tt)
+    counts_if (nat_le 3000 parts) accepted (Some (refusal.Full room.Parts accepted)) (number_turn drawn accepted) refl (number_counts drawn accepted)
 
 -- a turn's refusal counts the commands before it
 pub turn_counts : (h : History) (done : List Command) (next : Command) (why : Refusal) → IsInsert next ⊎ (done ≡ []) → TurnRefuses h (length done) next why → accepted_by why ≡ length done
@@ -193,6 +196,16 @@ turn_counts h done (command.Create c) why (inl is) turn = absurd is
 turn_counts h done (command.Create c) why (inr first) turn = counted 0 (create_turn c.table h) why turn (create_counts c.table h) ∙ sym (ap length first)
 turn_counts h done (command.Insert i) why which turn =
     counted (length done) (insert_turn turn.0 (last_number i.table h) (length done)) why turn.2 (insert_counts turn.0 (last_number i.table h) (length done))
+turn_counts h done (command.Alter a) why which turn =
+    counted (length done) (number_turn (last_number a.table h) (length done)) why turn (number_counts (last_number a.table h) (length done))
+
+numbers_more : (drawn later accepted : ℕ) (why : Refusal) → drawn ≤ later → number_turn drawn accepted ≡ Some why → number_turn later accepted ≡ Some why
+numbers_more drawn later accepted why more is = by (nat_le 4294967295 drawn) refl is
+  where
+    by : (c : Bool) → nat_le 4294967295 drawn ≡ c → cond c (Some (refusal.Full room.Numbers accepted)) None ≡ Some why
+        → cond (nat_le 4294967295 later) (Some (refusal.Full room.Numbers accepted)) None ≡ Some why
+    by true e is = let also : nat_le 4294967295 later ≡ true = grind (arith, nat_tests) in rw also is
+    by false e is = cc
 
 full_more : (parts drawn later accepted : ℕ) (why : Refusal) → drawn ≤ later → insert_turn parts drawn accepted ≡ Some why → insert_turn parts later accepted ≡ Some why
 full_more parts drawn later accepted why more is = by (nat_le 3000 parts) (nat_le 4294967295 drawn) refl is
@@ -215,3 +228,5 @@ refuses_more h done (command.Insert i) why which turn =
       omega (arith, turn.1, inserts_more i.table i.partition h more),
       full_more turn.0 (last_number i.table h) (last_number i.table (entered h 0 done)) (length done) why (last_more i.table h more) turn.2,
     )
+refuses_more h done (command.Alter a) why which turn =
+    numbers_more (last_number a.table h) (last_number a.table (entered h 0 done)) (length done) why (last_more a.table h (entered [] 0 done)) turn

@@ -7,13 +7,14 @@ use Rattle.mt_base.specs.declared.partition.Partition.{Partition}
 use Rattle.mt_values.specs.declared.command.Entry.{Entry}
 use Rattle.mt_values.specs.declared.command.Command.{Command}
 use Rattle.mt_values.specs.declared.command.Command.TheVariants as command
+use Rattle.mt_values.specs.Changes.{changed}
 use Rattle.mt_values.specs.Values.{Row}
 use Rattle.mt_values.specs.Grammar.{same_bytes}
 use Rattle.mt_values.specs.declared.schema.Schema.{Schema}
 use Rattle.mt_values.specs.Tables.{sorting_cmp}
 use Rattle.mt_model.specs.History.{History, ArePlain, FewInserts, IsLegal, IsLegalAfter, IsAllowed, first_of, inserts, inserts_into, schema_by, schema_of}
 use Rattle.mt_model.specs.Live.{live, live_from, rows_after, sorted}
-use Rattle.mt_model.specs.Numbers.{draws, last_number, numbered}
+use Rattle.mt_model.specs.Numbers.{draws, last_number, mutations_among, mutations_in, numbered}
 
 legal_front_after : (before h more : History) → IsLegalAfter before (h ++ more) → IsLegalAfter before h
 legal_front_after before [] more legal = tt
@@ -81,28 +82,52 @@ live_from-append table schema rows (e ∷ h) more = live_from-append table schem
 pub live_push : (table : List ℕ) (schema : Schema) (h : History) (e : Entry) → live table schema (h ++ e ∷ []) ≡ rows_after table schema (live table schema h) e.command
 live_push table schema h e = live_from-append table schema [] h (e ∷ [])
 
--- what a command adds to rows
-added : List ℕ → Schema → Command → List Row
-added table schema (command.Create c) = []
-added table schema (command.Insert i) = cond (same_bytes i.table table) (sorted (sorting_cmp schema) i.block.rows) []
+-- without a mutation of the table the rows that were there stay before others
+module _ (table : List ℕ) (schema : Schema) where
+  -- what a command adds to rows, and that there is no mutation of the table after it
+  record Adds (rows : List Row) (c : Command) (cs : List Command) : Type 0 where
+    rest : List Row
+    after_is : rows_after table schema rows c ≡ rows ++ rest
+    number : ℕ
+    none : mutations_among number cs ≡ []
 
-adds_rows : (table : List ℕ) (schema : Schema) (rows : List Row) (c : Command) → rows_after table schema rows c ≡ rows ++ added table schema c
-unfolding added
-adds_rows table schema rows (command.Create c) = sym (append-nil rows)
-adds_rows table schema rows (command.Insert i) = by (same_bytes i.table table)
-  where
-    by : (b : Bool) → cond b (rows ++ sorted (sorting_cmp schema) i.block.rows) rows ≡ rows ++ cond b (sorted (sorting_cmp schema) i.block.rows) []
-    by true = refl
-    by false = sym (append-nil rows)
+  adds_rows : (rows : List Row) (n : ℕ) (c : Command) (cs : List Command) → mutations_among n (cond (draws table c) (c ∷ cs) cs) ≡ [] → Adds rows c cs
+  adds_rows rows n (command.Create c) cs none = record { rest = []; after_is = sym (append-nil rows); number = n; none = none }
+  adds_rows rows n (command.Insert i) cs none = by (same_bytes i.table table) refl none
+    where
+      by : (b : Bool) → same_bytes i.table table ≡ b → mutations_among n (cond b (command.Insert i ∷ cs) cs) ≡ [] → Adds rows (command.Insert i) cs
+      by true is none = record {
+        rest = sorted (sorting_cmp schema) i.block.rows;
+        after_is = ap (λ (b : Bool). cond b (rows ++ sorted (sorting_cmp schema) i.block.rows) rows) is;
+        number = n + 1;
+        none = none;
+      }
+      by false is none = record {
+        rest = [];
+        after_is = ap (λ (b : Bool). cond b (rows ++ sorted (sorting_cmp schema) i.block.rows) rows) is ∙ sym (append-nil rows);
+        number = n;
+        none = none;
+      }
+  adds_rows rows n (command.Alter a) cs none = by (same_bytes a.table table) refl none
+    where
+      by : (b : Bool) → same_bytes a.table table ≡ b → mutations_among n (cond b (command.Alter a ∷ cs) cs) ≡ [] → Adds rows (command.Alter a) cs
+      by true is none = cc
+      by false is none = record {
+        rest = [];
+        after_is = ap (λ (b : Bool). cond b (changed a.change rows) rows) is ∙ sym (append-nil rows);
+        number = n;
+        none = none;
+      }
 
-grows_from : (table : List ℕ) (schema : Schema) (rows : List Row) (h : History) → (rest : List Row) × (live_from table schema rows h ≡ rows ++ rest)
-grows_from table schema rows [] = ([], sym (append-nil rows))
-grows_from table schema rows (e ∷ h) =
-    let more = grows_from table schema (rows_after table schema rows e.command) h in
-    (added table schema e.command ++ more.0, more.1 ∙ ap (λ (zs : List Row). zs ++ more.0) (adds_rows table schema rows e.command) ∙ append_assoc rows (added table schema e.command) more.0)
+  grows_from : (rows : List Row) (n : ℕ) (h : History) → mutations_among n (numbered table h) ≡ [] → (rest : List Row) × (live_from table schema rows h ≡ rows ++ rest)
+  grows_from rows n [] none = ([], sym (append-nil rows))
+  grows_from rows n (e ∷ h) none =
+      let one = adds_rows rows n e.command (numbered table h) none in
+      let more = grows_from (rows_after table schema rows e.command) one.number h one.none in
+      (one.rest ++ more.0, more.1 ∙ ap (λ (zs : List Row). zs ++ more.0) one.after_is ∙ append_assoc rows one.rest more.0)
 
--- a longer history keeps the live rows and adds to them
-pub live_grows : (table : List ℕ) (schema : Schema) (h more : History) → (rest : List Row) × (live table schema (h ++ more) ≡ live table schema h ++ rest)
-live_grows table schema h more =
-    let found = grows_from table schema (live table schema h) more in
-    (found.0, live_from-append table schema [] h more ∙ found.1)
+  -- a longer history without one keeps the live rows and adds to them
+  pub live_grows : (h more : History) → mutations_in table more ≡ [] → (rest : List Row) × (live table schema (h ++ more) ≡ live table schema h ++ rest)
+  live_grows h more none =
+      let found = grows_from (live table schema h) 1 more none in
+      (found.0, live_from-append table schema [] h more ∙ found.1)

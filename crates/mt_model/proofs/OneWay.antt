@@ -28,7 +28,7 @@ use Rattle.mt_model.specs.declared.refusal.Refusal.TheVariants as refusal
 use Rattle.mt_model.specs.declared.refusal.Room.TheVariants as room
 use Rattle.mt_model.specs.Outside.{Outside, HasRisen, ReadOrStageFailed, TurnFailed}
 use Rattle.mt_model.specs.Refusals.{refusal_line, refusal_of_cause}
-use Rattle.mt_model.specs.Reply.{ok_line, rows_reply, create_turn, insert_turn}
+use Rattle.mt_model.specs.Reply.{ok_line, rows_reply, create_turn, insert_turn, number_turn}
 use Rattle.mt_model.specs.Session.{AddsNothing, Adds, Accepts, TurnAllows, TurnRefuses, Selects, RefusedAs, MergeFailed, SelectRefused, TakesCommands, TakesOptimize, Takes, SessionRun}
 use Rattle.mt_model.specs.Script.{HasNoExplain, IsNoExplain, OwnEntries, ScriptRun}
 use Rattle.mt_model.proofs.Lists.{take_got}
@@ -100,6 +100,7 @@ refused why = record { reply = λ to. refusal_line why; commands = [] }
 abbrev turn_of : ℕ → Command → History → Option Refusal
 turn_of accepted (command.Create c) h = create_turn c.table h
 turn_of accepted (command.Insert i) h = insert_turn 0 (last_number i.table h) accepted
+turn_of accepted (command.Alter a) h = number_turn (last_number a.table h) accepted
 
 abbrev turn_or : Option Refusal → Command → Step → Step
 turn_or (Some why) c rest = refused why
@@ -201,12 +202,14 @@ allows_turn h accepted (command.Create c) few turn = turn
 allows_turn h accepted (command.Insert i) few turn =
     let low : turn.0 < 3000 = omega (arith, few i.table i.partition, turn.1) in
     allowed_any (last_number i.table h) accepted (sym (turn_same turn.0 (last_number i.table h) 0 low) ∙ turn.2)
+allows_turn h accepted (command.Alter a) few turn = allowed_any (last_number a.table h) accepted turn
 
 refuses_turn : (h : History) (accepted : ℕ) (c : Command) (why : Refusal) → FewInserts h → TurnRefuses h accepted c why → turn_of accepted c h ≡ Some why
 refuses_turn h accepted (command.Create c) why few turn = turn
 refuses_turn h accepted (command.Insert i) why few turn =
     let low : turn.0 < 3000 = omega (arith, few i.table i.partition, turn.1) in
     sym (turn_same turn.0 (last_number i.table h) accepted low) ∙ turn.2
+refuses_turn h accepted (command.Alter a) why few turn = turn
 
 -- ---- what is known of a history, or of the one that the statements come to, and of each front with it
 

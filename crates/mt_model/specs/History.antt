@@ -15,6 +15,7 @@ use Rattle.mt_values.specs.Schemas.{schema_fault}
 use Rattle.mt_values.specs.Grid.{AreRowsOf}
 use Rattle.mt_values.specs.Tables.{IsPlain, has_sign, partition_of, same_partition}
 use Rattle.mt_values.specs.Values.{Row, AreValues}
+use Rattle.mt_model.specs.Mutations.{IsChangeOf}
 
 -- the accepted commands of all tables, each with its session, in the order in which they were accepted
 abbrev pub History : Type 0
@@ -28,6 +29,7 @@ entries_of list = map (λ (n : Noted). n.entry) list
 abbrev pub schema_by : List ℕ → Command → Option Schema
 schema_by table (command.Create c) = if same_bytes c.table table then Some c.schema else None
 schema_by table (command.Insert i) = None
+schema_by table (command.Alter a) = None
 
 abbrev pub first_of : {X : Type 0} → Option X → Option X → Option X
 first_of (Some x) other = Some x
@@ -41,11 +43,13 @@ schema_of table (e ∷ es) = first_of (schema_by table e.command) (schema_of tab
 abbrev pub is_create : Command → Bool
 is_create (command.Create c) = true
 is_create (command.Insert i) = false
+is_create (command.Alter a) = false
 
 -- whether a command is an INSERT into a partition of the table (docs/definitions.md, "Histories")
 abbrev pub inserts_into : List ℕ → Partition → Command → Bool
 inserts_into table partition (command.Create c) = false
 inserts_into table partition (command.Insert i) = same_bytes i.table table && same_partition i.partition partition
+inserts_into table partition (command.Alter a) = false
 
 -- how many tables were made
 abbrev pub creates : History → ℕ
@@ -88,6 +92,7 @@ pub record IsInsertInto (schema : Schema) (i : Insert) : Type 0 where
 abbrev pub IsAllowed : History → Command → Type 0
 IsAllowed h (command.Create c) = (schema_of c.table h ≡ None) × (creates h < root_table_limit) × IsTableSchema c.schema
 IsAllowed h (command.Insert i) = (schema : Schema) × (schema_of i.table h ≡ Some schema) × IsInsertInto schema i
+IsAllowed h (command.Alter a) = (schema : Schema) × (schema_of a.table h ≡ Some schema) × IsChangeOf schema a.change
 
 -- each command may come after those before it
 abbrev pub IsLegalAfter : History → History → Type 0

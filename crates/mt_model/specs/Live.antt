@@ -6,6 +6,7 @@ use Rattle.mt_values.specs.declared.command.Command.{Command}
 use Rattle.mt_values.specs.declared.command.Command.TheVariants as command
 use Rattle.mt_base.specs.declared.partition.Partition.{Partition}
 use Rattle.mt_values.specs.declared.schema.Schema.{Schema}
+use Rattle.mt_values.specs.Changes.{changed}
 use Rattle.mt_values.specs.Values.{Row}
 use Rattle.mt_values.specs.Grammar.{same_bytes}
 use Rattle.mt_values.specs.Tables.{partition_of, same_partition, sorting_cmp}
@@ -21,11 +22,12 @@ abbrev pub sorted : (Row → Row → Ordering) → List Row → List Row
 sorted cmp [] = []
 sorted cmp (x ∷ xs) = placed cmp x (sorted cmp xs)
 
--- the rows of a table of this schema after one more command: an INSERT into it adds its rows in the table's order (docs/definitions.md, "Live rows")
+-- the rows of a table of this schema after one more command: an INSERT into it adds its rows in the table's order, a mutation changes those that are there (docs/definitions.md, "Live rows")
 abbrev pub rows_after : List ℕ → Schema → List Row → Command → List Row
 rows_after table schema rows (command.Create c) = rows
 rows_after table schema rows (command.Insert i) =
     if same_bytes i.table table then rows ++ sorted (sorting_cmp schema) i.block.rows else rows
+rows_after table schema rows (command.Alter a) = if same_bytes a.table table then changed a.change rows else rows
 
 -- what the commands leave of these rows and add to them (docs/definitions.md, "Live rows")
 abbrev pub live_from : List ℕ → Schema → List Row → History → List Row

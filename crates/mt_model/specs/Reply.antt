@@ -184,13 +184,15 @@ abbrev pub rows_for : InsertText → Option Schema → Result (List Row) Refusal
 rows_for i None = Err (refusal.NoTable i.table)
 rows_for i (Some schema) = rows_or_refused (inserted_rows (column_types schema) (sign_place schema.engine) i.lines i.ended)
 
+-- At the turn of its next command, by the last number of the table and how many of the statement's commands were accepted before: the table has a
+-- number (docs/replies.md, "Refusals").
+abbrev pub number_turn : ℕ → ℕ → Option Refusal
+number_turn drawn accepted = if nat_le number_limit drawn then Some (refusal.Full room.Numbers accepted) else None
+
 -- At the turn of its next command, by the parts of the partition, the last number of the table, and how many of the statement's commands were
 -- accepted before: the partition has room for a part, and the table a number (docs/replies.md, "Refusals").
 abbrev pub insert_turn : ℕ → ℕ → ℕ → Option Refusal
-insert_turn parts drawn accepted =
-    if nat_le part_limit parts then Some (refusal.Full room.Parts accepted)
-    else if nat_le number_limit drawn then Some (refusal.Full room.Numbers accepted)
-    else None
+insert_turn parts drawn accepted = if nat_le part_limit parts then Some (refusal.Full room.Parts accepted) else number_turn drawn accepted
 
 -- ---- SELECT
 

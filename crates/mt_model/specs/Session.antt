@@ -18,7 +18,7 @@ use Rattle.mt_model.specs.Outside.{LevelFailed, Outside, ReadOrStageFailed, Turn
 use Rattle.mt_model.specs.Refusals.{refusal_line, refusal_of_cause}
 use Rattle.mt_model.specs.declared.query.Query.{Query}
 use Rattle.mt_model.specs.Queries.{query_of_select}
-use Rattle.mt_model.specs.Reply.{ok_line, rows_reply, create_turn, insert_turn}
+use Rattle.mt_model.specs.Reply.{ok_line, rows_reply, create_turn, insert_turn, number_turn}
 
 -- from one place of the history to the same or a later one the session accepted nothing (docs/definitions-of-runs.md, "Turns")
 pub record AddsNothing (h : History) (session from to : ℕ) : Type 0 where
@@ -44,12 +44,14 @@ abbrev pub TurnRefuses : History → ℕ → Command → Refusal → Type 0
 TurnRefuses h accepted (command.Create c) why = create_turn c.table h ≡ Some why
 TurnRefuses h accepted (command.Insert i) why =
     (parts : ℕ) × (parts ≤ inserts i.table i.partition h) × (insert_turn parts (last_number i.table h) accepted ≡ Some why)
+TurnRefuses h accepted (command.Alter a) why = number_turn (last_number a.table h) accepted ≡ Some why
 
 -- the turn of a command refuses nothing (docs/definitions-of-runs.md, "Turns")
 abbrev pub TurnAllows : History → Command → Type 0
 TurnAllows h (command.Create c) = create_turn c.table h ≡ None
 TurnAllows h (command.Insert i) =
     (parts : ℕ) × (parts ≤ inserts i.table i.partition h) × (insert_turn parts (last_number i.table h) 0 ≡ None)
+TurnAllows h (command.Alter a) = number_turn (last_number a.table h) 0 ≡ None
 
 -- from one place to the same or a later one the session accepted these commands, each in a turn of its own, and the last one's entry is the last (docs/definitions-of-runs.md, "Turns")
 abbrev pub Accepts : History → ℕ → List Command → ℕ → ℕ → Type 0

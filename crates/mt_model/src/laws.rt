@@ -39,6 +39,7 @@ ghost use Rattle.mt_model.specs.Commands.{partitions_of, rows_in};
 ghost use Rattle.mt_model.specs.declared.refusal.Refusal.{Refusal};
 ghost use Rattle.mt_model.specs.History.{History, column_types, ArePlain, FewInserts, IsAllowed, IsInsertInto, IsLegal, IsTableSchema};
 ghost use Rattle.mt_model.specs.Live.{live, sorted, of_key};
+ghost use Rattle.mt_model.specs.Numbers.{mutations_in};
 ghost use Rattle.mt_model.specs.Partial.{MergesAll, Partly};
 ghost use Rattle.mt_model.specs.Answer.{Answer, Prints};
 ghost use Rattle.mt_model.specs.Final.{Sees};
@@ -91,9 +92,10 @@ pub fn inserts_are_parted()
         ≡ (UInt8 2 ∷ a) ∷ (UInt8 2 ∷ c) ∷ [] }
 {}
 
-/// As a history grows, the live rows of a plain table stay, and others come after them.
+/// As a history grows without a mutation of a plain table, its live rows stay, and others come after them.
 pub fn live_rows_only_grow()
     ensures { (table : List ℕ) (schema : Schema) (h more : History) → IsPlain schema
+        → mutations_in table more ≡ []
         → (rest : List Row) × (live table schema (h ++ more) ≡ live table schema h ++ rest) }
 {}
 

@@ -10,7 +10,7 @@ use crate::clauses::find_column;
 use crate::refusal::Refusal;
 use crate::resolving::selected_columns;
 use mt_base::{Seq, Stop, Twin};
-use mt_values::{ColType, Column, Expr, Name, SelectText, Test, TestText, literal_value};
+use mt_values::{ColType, Column, Expr, Literals, Name, SelectText, Test, TestText, literal_value};
 use std::alloc::Global;
 
 /// What a SELECT asks of a table.
@@ -93,7 +93,7 @@ fn test_in(alloc: Global, columns: &[Column], test: &TestText) -> Result<Test, S
     Ok(Test {
         column: place as u32,
         comparison: test.comparison,
-        literals,
+        literals: Literals::of(alloc, literals)?,
     })
 }
 

@@ -7,5 +7,6 @@ mod reading;
 mod rule;
 
 pub use laws::mutations_go_with_merges;
+pub use mt_model;
 pub use reading::version_of;
 pub use rule::RowRule;

@@ -38,8 +38,8 @@ returns c =
     let i = c.loop-literal.literal-index in
     let none : first_alien kind ls ≡ None = sym c.loop-literal.invariant.left ∙ none_left kind ls i c.loop-literal-test.false in
     let are = all_values kind ls i c.loop-literal.literals c.loop-literal-test.false c.loop-literal.invariant.so_far in
-    test_given c.args.columns.now c.args.test.now kind c.unwrap_or-place.result c.loop-literal.literals
+    test_given c.args.columns.now c.args.test.now kind c.unwrap_or-place.result c.in_ok-of.field-0
     (c.unwrap_or-place.ensures ∙ ap (λ (o : Option ℕ). unwrap_or o 0) c.find_column.ensures.place)
     (kind_is c.args.columns.now c.args.test.now kind c.unwrap_or-place.result c.find_column.result c.type_at-col_type.ensures c.unwrap_or-place.ensures c.find_column.ensures.place)
     (subst (λ (xs : List Literal). first_alien kind xs ≡ None) c.as_slice-literal-items.ensures none)
-    (are ∙ ap (filter_map (value_of kind)) c.as_slice-literal-items.ensures)
+    (c.in_ok-of.ensures ∙ are ∙ ap (filter_map (value_of kind)) c.as_slice-literal-items.ensures)
