@@ -7,9 +7,9 @@ use Rattle.std.proofs.lemmas.Option.{get_or_from_slice_get, slice_get_within}
 use Rattle.mt_base.specs.declared.partition.Partition.{Partition}
 use Rattle.mt_values.specs.declared.schema.Schema.{Schema}
 use Rattle.mt_values.specs.Tables.{MayHavePartition, same_partition}
-use Rattle.mt_model.specs.History.{History, IsLegal, schema_of}
-use Rattle.mt_model.specs.Numbers.{IsNumberOfInsert, numbered}
-use Rattle.mt_model.proofs.Commands.{own_partition, same_itself}
+use Rattle.rule_law.specs.mt_model.History.{History, IsLegal, schema_of}
+use Rattle.rule_law.specs.mt_model.Numbers.{IsNumberOfInsert, numbered}
+use Rattle.rule_law.proofs.MtModelCommands.{own_partition, same_itself}
 use Rattle.part_name.specs.PartNames.{Before, IsPartName}
 use Rattle.part_history.specs.declared.part.CorePart.{CorePart}
 use Rattle.part_history.specs.Parts.{PartStands, TableStands, has_block}

@@ -12,10 +12,10 @@ use Rattle.mt_values.specs.declared.command.Command.TheVariants as command
 use Rattle.mt_values.specs.declared.command.Entry.{Entry}
 use Rattle.mt_values.specs.Grammar.{same_bytes}
 use Rattle.mt_values.specs.Tables.{same_partition}
-use Rattle.mt_model.specs.History.{History, inserts, inserts_into}
-use Rattle.mt_model.specs.Numbers.{IsNumberOfInsert, draws, lies_within, numbered}
-use Rattle.mt_model.proofs.Commands.{partition_is, same_itself}
-use Rattle.mt_model.proofs.Lists.{take_got}
+use Rattle.rule_law.specs.mt_model.History.{History, inserts, inserts_into}
+use Rattle.rule_law.specs.mt_model.Numbers.{IsNumberOfInsert, draws, lies_within, numbered}
+use Rattle.rule_law.proofs.MtModelCommands.{partition_is, same_itself}
+use Rattle.rule_law.proofs.MtModelLists.{take_got}
 use Rattle.part_history.specs.declared.part.CorePart.{CorePart}
 use Rattle.part_history.specs.Parts.{PartStands, TableStands, has_block, parts_in}
 use Rattle.part_history.proofs.Growing.{number_drawn}
@@ -28,6 +28,7 @@ one_if b = cond b 1 0
 abbrev is_of : Partition → Command → Bool
 is_of w (command.Create c) = false
 is_of w (command.Insert i) = same_partition i.partition w
+is_of w (command.Alter a) = false
 
 -- one command more
 count_of : (w : Partition) (c : Command) (cs : List Command) → count_by (is_of w) (c ∷ cs) ≡ one_if (is_of w c) + count_by (is_of w) cs
@@ -42,6 +43,11 @@ inserts_step table w (command.Insert i) e es cs same = by (same_bytes i.table ta
     by true true is = let one = count_of w (command.Insert i) cs ∙ ap (λ (x : Bool). one_if x + count_by (is_of w) cs) is in omega (arith, one, same)
     by true false is = let one = count_of w (command.Insert i) cs ∙ ap (λ (x : Bool). one_if x + count_by (is_of w) cs) is in omega (arith, one, same)
     by false b is = same
+inserts_step table w (command.Alter a) e es cs same = by (same_bytes a.table table)
+  where
+    by : (b : Bool) → length es ≡ count_by (is_of w) (cond b (command.Alter a ∷ cs) cs)
+    by true = let one = count_of w (command.Alter a) cs in omega (arith, one, same)
+    by false = same
 
 -- the INSERTs into a partition of a table are those of its commands that are of it
 inserts_numbered : (table : List ℕ) (w : Partition) (h : History) → inserts table w h ≡ count_by (is_of w) (numbered table h)
@@ -174,6 +180,7 @@ module _ (table : List ℕ) (h : History) (w : Partition) where
 
   number_of : (n : ℕ) (c : Command) → slice_get (numbered table h) n ≡ Some c → is_of w c ≡ true → IsNumberOfInsert table w (n + 1) h
   number_of n (command.Create c) there is = cc
+  number_of n (command.Alter a) there is = cc
   number_of n (command.Insert i) there is =
       let place : n + 1 - 1 ≡ n = omega arith in
       record { from_one = omega arith; insert = i; there = ap (slice_get (numbered table h)) place ∙ there; partition_is = partition_is i.partition w is }

@@ -1,5 +1,5 @@
 -- Parts that stand for a history, as it grows.
-use Rattle.std.proofs.Common.{◌≡◌, ℕ, ◌+◌, ◌-◌, ◌<◌, ◌≤◌, Bool, true, false, cond, ◌&&◌, List, [], ◌∷◌, ◌++◌, Some, length, slice_get, All, refl, sym, ap, ap₂, ◌∙◌, subst, append-nil, length-append, arith, zero, suc, inl, inr, ◌⊎◌}
+use Rattle.std.proofs.Common.{◌≡◌, ℕ, ◌+◌, ◌-◌, ◌<◌, ◌≤◌, Bool, true, false, cond, ◌&&◌, List, [], ◌∷◌, ◌++◌, Option, Some, None, length, slice_get, All, refl, sym, ap, ap₂, ◌∙◌, subst, append-nil, length-append, arith, zero, suc, inl, inr, ◌⊎◌}
 use Rattle.std.specs.List.{flat_map, count_by, AllByRecursion}
 use Rattle.std.proofs.lemmas.Bool.{cases_lt}
 use Rattle.std.proofs.lemmas.List.Elements.{All-from_recursion, All-push, All-weaker, recursion_from_All}
@@ -9,26 +9,27 @@ use Rattle.mt_base.specs.declared.partition.Partition.{Partition}
 use Rattle.mt_values.specs.declared.command.Command.{Command}
 use Rattle.mt_values.specs.declared.command.Command.TheVariants as command
 use Rattle.mt_values.specs.declared.command.Entry.{Entry}
+use Rattle.mt_values.specs.declared.command.Alter.{Alter}
 use Rattle.mt_values.specs.declared.command.Insert.{Insert}
 use Rattle.mt_values.specs.declared.schema.Schema.{Schema}
 use Rattle.mt_values.specs.Grammar.{same_bytes}
 use Rattle.mt_values.specs.Tables.{same_partition, sorting_cmp}
 use Rattle.mt_values.specs.Values.{Row}
-use Rattle.mt_model.specs.History.{History, schema_of}
-use Rattle.mt_model.specs.Live.{live, sorted}
-use Rattle.mt_model.specs.Numbers.{IsNumberOfInsert, Reach, draws, lies_within, numbered, reached}
-use Rattle.mt_model.specs.Partial.{Partly}
-use Rattle.mt_model.specs.Reaches.{ReachStands}
-use Rattle.mt_model.proofs.Commands.{same_itself}
-use Rattle.mt_model.proofs.Determined.{sorting_total}
-use Rattle.mt_model.proofs.Histories.{numbered_more, schema_kept}
-use Rattle.mt_model.proofs.Merged.{partly_itself}
-use Rattle.mt_model.proofs.Sorting.{sorted_rises}
-use Rattle.mt_model.proofs.Tables.{itself_same}
+use Rattle.rule_law.specs.mt_model.History.{History, schema_of}
+use Rattle.rule_law.specs.mt_model.Live.{live, sorted}
+use Rattle.rule_law.specs.mt_model.Numbers.{IsNumberOfInsert, IsNumberOfMutation, NoMutationBetween, Reach, draws, lies_within, mutations_among, mutations_in, numbered, reached}
+use Rattle.rule_law.specs.mt_model.Partial.{Partly}
+use Rattle.rule_law.specs.mt_model.Reaches.{ReachStands}
+use Rattle.rule_law.proofs.MtModelCommands.{same_itself}
+use Rattle.rule_law.proofs.MtModelDetermined.{sorting_total}
+use Rattle.rule_law.proofs.MtModelHistories.{last_more, numbered_more, schema_kept}
+use Rattle.rule_law.proofs.MtModelMerged.{partly_itself}
+use Rattle.rule_law.proofs.MtModelSorting.{sorted_rises}
+use Rattle.rule_law.proofs.MtModelTables.{itself_same}
 use Rattle.part_history.specs.declared.part.CorePart.{CorePart}
-use Rattle.part_history.specs.Parts.{PartStands, TableStands, has_block, reach_of_part}
+use Rattle.part_history.specs.Parts.{PartStands, TableStands, WasMutated, has_block, reach_of_part}
 use Rattle.part_history.specs.Entered.{part_of_insert}
-use Rattle.part_history.proofs.Numbered.{is_kept, kept, kept_if, kept_in, live_reached, sorted_by}
+use Rattle.part_history.proofs.Settled.{among_more, is_kept, kept, kept_if, kept_in, live_reached, rows_by, settled, settled_by, settled_length, settled_more, settled_push, upto}
 use Rattle.part_history.proofs.Ranges.{and_false, if_front, kept_above, lies_above, lies_below, lies_inside, outside}
 
 -- ---- lists
@@ -68,6 +69,36 @@ insert_was t p n h more is upto =
       partition_is = is.partition_is;
     }
 
+-- the same of mutations
+pub mutation_drawn : (t : List ℕ) (n : ℕ) (h : History) → IsNumberOfMutation t n h → n ≤ length (numbered t h)
+mutation_drawn t n h is = let below = slice_get_within (numbered t h) (n - 1) (command.Alter is.alter) is.there in omega (arith, below, is.from_one)
+
+pub mutation_kept : (t : List ℕ) (n : ℕ) (h more : History) → IsNumberOfMutation t n h → IsNumberOfMutation t n (h ++ more)
+mutation_kept t n h more is =
+    let below = slice_get_within (numbered t h) (n - 1) (command.Alter is.alter) is.there in
+    record {
+      from_one = is.from_one;
+      alter = is.alter;
+      there = ap (λ cs. slice_get cs (n - 1)) (numbered_more t h more) ∙ (slice_left (numbered t h) (numbered t more) (n - 1) below ∙ is.there);
+    }
+
+pub mutation_was : (t : List ℕ) (n : ℕ) (h more : History) → IsNumberOfMutation t n (h ++ more) → n ≤ length (numbered t h) → IsNumberOfMutation t n h
+mutation_was t n h more is upto =
+    let below : n - 1 < length (numbered t h) = omega (arith, is.from_one, upto) in
+    record {
+      from_one = is.from_one;
+      alter = is.alter;
+      there = sym (slice_left (numbered t h) (numbered t more) (n - 1) below) ∙ (sym (ap (λ cs. slice_get cs (n - 1)) (numbered_more t h more)) ∙ is.there);
+    }
+
+-- no mutation comes between numbers that were drawn
+between_kept : (t : List ℕ) (low high : ℕ) (h more : History) → high ≤ length (numbered t h) → NoMutationBetween t low high h → NoMutationBetween t low high (h ++ more)
+between_kept t low high h more drawn none n is lt le = none n (mutation_was t n h more is (omega (arith, drawn, le))) lt le
+
+was_mutated : (t : List ℕ) (o : Option ℕ) (h more : History) → WasMutated t o h → WasMutated t o (h ++ more)
+was_mutated t None h more was = tt
+was_mutated t (Some n) h more was = mutation_kept t n h more was
+
 -- ---- commands within some numbers
 
 kept_below : (p : Partition) (a b n : ℕ) (cs : List Command) → n + length cs ≤ a → kept p a b n cs ≡ []
@@ -81,16 +112,20 @@ kept_more p a b n m (c ∷ cs) more is =
     ∙ if_front (is_kept p a b n c) c (kept p a b (n + 1) cs) (kept p a b m more)
 
 -- commands with greater numbers change nothing
-pub live_kept : (schema : Schema) (r : Reach) (h more : History) → r.greatest ≤ length (numbered r.table h) → live r.table schema (reached r (h ++ more)) ≡ live r.table schema (reached r h)
-live_kept schema r h more upto =
+pub live_kept : (schema : Schema) (r : Reach) (h more : History) → r.greatest ≤ length (numbered r.table h) → r.version ≤ length (numbered r.table h) → live r.table schema (reached r (h ++ more)) ≡ live r.table schema (reached r h)
+live_kept schema r h more most version =
     let cs = numbered r.table h in
     let others = numbered r.table more in
     let last = 1 + length cs in
+    let was = settled schema (upto r.version) 1 cs in
+    let next = settled schema (upto r.version) last others in
+    let long = settled_length schema (upto r.version) 1 cs in
     live_reached schema r (h ++ more)
-    ∙ (ap (flat_map (sorted_by schema))
-    (ap (kept_in r 1) (numbered_more r.table h more)
-    ∙ (kept_more r.partition r.least r.greatest 1 last cs others refl
-    ∙ (ap (λ (rest : List Command). kept_in r 1 cs ++ rest) (kept_above r.partition r.least r.greatest last others (omega (arith, upto))) ∙ append-nil (kept_in r 1 cs))))
+    ∙ (ap (flat_map rows_by)
+    (ap (λ (zs : List Command). kept_in r 1 (settled schema (upto r.version) 1 zs)) (numbered_more r.table h more)
+    ∙ (ap (kept_in r 1) (settled_more schema r.version 1 cs others (omega (arith, version)))
+    ∙ (kept_more r.partition r.least r.greatest 1 last was next (omega (arith, long))
+    ∙ (ap (λ (rest : List Command). kept_in r 1 was ++ rest) (kept_above r.partition r.least r.greatest last next (omega (arith, most))) ∙ append-nil (kept_in r 1 was)))))
     ∙ sym (live_reached schema r h))
 
 -- ---- parts
@@ -101,8 +136,10 @@ reach_kept h more schema r rows s = record {
   order = s.order;
   least = insert_kept r.table r.partition r.least h more s.least;
   greatest = insert_kept r.table r.partition r.greatest h more s.greatest;
+  drawn = omega (arith, s.drawn, last_more r.table h more);
+  whole = between_kept r.table r.version r.greatest h more (number_drawn r.table r.partition r.greatest h s.greatest) s.whole;
   rising = s.rising;
-  partly = subst (λ (was : List Row). Partly schema was rows) (sym (live_kept schema r h more (number_drawn r.table r.partition r.greatest h s.greatest))) s.partly;
+  partly = subst (λ (was : List Row). Partly schema was rows) (sym (live_kept schema r h more (number_drawn r.table r.partition r.greatest h s.greatest) s.drawn)) s.partly;
 }
 
 -- a part still stands
@@ -110,6 +147,7 @@ pub part_kept : (h more : History) (p : CorePart) → PartStands h p → PartSta
 part_kept h more p s = record {
   schema = s.schema;
   there = schema_kept p.table h more s.schema s.there;
+  mutated = was_mutated p.table p.name.mutation h more s.mutated;
   stands = reach_kept h more s.schema (reach_of_part p) p.rows s.stands;
 }
 
@@ -174,23 +212,29 @@ module _ (h : History) (e : Entry) (i : Insert) (schema : Schema) (is : e.comman
   own_rows =
       let cs = numbered i.table h in
       let n = length cs + 1 in
+      let last = settled_push schema (upto n) 1 cs (command.Insert i) in
+      let one = settled_by schema [] (command.Insert i) in
       let yes : is_kept i.partition n n n (command.Insert i) ≡ true =
       ap₂ ◌&&◌ (same_itself i.partition) (lies_inside n n n (omega arith) (omega arith)) in
       live_reached schema (reach_of_part new_part) (h ++ e ∷ [])
-      ∙ (ap (flat_map (sorted_by schema))
-      (ap (kept i.partition n n 1) drawn_here
-      ∙ (kept_more i.partition n n 1 n cs (command.Insert i ∷ []) (omega arith)
-      ∙ ap₂ (λ (xs : List Command) (s : Bool). xs ++ kept_if s (command.Insert i) []) (kept_below i.partition n n 1 cs (omega arith)) yes))
+      ∙ (ap (flat_map rows_by)
+      (ap (λ (zs : List Command). kept i.partition n n 1 (settled schema (upto n) 1 zs)) drawn_here
+      ∙ (ap (kept i.partition n n 1) last.2
+      ∙ (kept_more i.partition n n 1 n last.0 (one ∷ []) (omega (arith, last.1))
+      ∙ ap₂ (λ (xs : List Command) (s : Bool). xs ++ kept_if s one []) (kept_below i.partition n n 1 last.0 (omega (arith, last.1))) yes)))
       ∙ append-nil (sorted (sorting_cmp schema) i.block.rows))
 
   part_new : PartStands (h ++ e ∷ []) new_part
   part_new = record {
     schema = schema;
     there = schema_kept i.table h (e ∷ []) schema there;
+    mutated = tt;
     stands = record {
       order = omega arith;
       least = own_number;
       greatest = own_number;
+      drawn = number_drawn i.table i.partition (length (numbered i.table h) + 1) (h ++ e ∷ []) own_number;
+      whole = λ n is lt le. absurd (omega (arith, lt, le));
       rising = sorted_rises (sorting_cmp schema) (sorting_total schema) i.block.rows;
       partly = subst (λ (rows : List Row). Partly schema rows new_part.rows) (sym own_rows) (partly_itself schema new_part.rows);
     };
@@ -232,6 +276,55 @@ module _ (h : History) (e : Entry) (i : Insert) (schema : Schema) (is : e.comman
           let yes : has_block w n p ≡ true = ap₂ ◌&&◌ same inside in
           count_push (has_block w n) ps p ∙ ap₂ (λ (k : ℕ) (b : Bool). k + cond b 1 0) (none_above w n count ps ends lt) yes
 
+-- ---- a mutation
+
+-- parts of a table stand for it with a mutation of it more, which none of them has
+pub table_altered : (h : History) (e : Entry) (a : Alter) (ps : List CorePart) → e.command ≡ command.Alter a → TableStands a.table ps h → TableStands a.table ps (h ++ e ∷ [])
+table_altered h e a ps is s = record {
+  own = s.own;
+  each = All-weaker (PartStands h) (PartStands (h ++ e ∷ [])) (λ p one. part_kept h (e ∷ []) p one) ps s.each;
+  once = λ w n at. s.once w n (insert_was a.table w n h (e ∷ []) at (below w n at (cases_lt (length (numbered a.table h)) n)));
+}
+  where
+    drawn : numbered a.table (h ++ e ∷ []) ≡ numbered a.table h ++ command.Alter a ∷ []
+    drawn =
+        numbered_more a.table h (e ∷ [])
+        ∙ ap (λ cs. numbered a.table h ++ cs) (ap (λ c. cond (draws a.table c) (c ∷ []) []) is ∙ ap (λ b. cond b (command.Alter a ∷ []) []) (itself_same a.table))
+
+    other : {P : Type 0} → (i : Insert) → Some (command.Insert i) ≡ Some (command.Alter a) → P
+    other i same = absurd (clash i same)
+      where
+        clash : (i : Insert) → Some (command.Insert i) ≡ Some (command.Alter a) → ⊥
+        clash i same = cc
+
+    below : (w : Partition) (n : ℕ) → IsNumberOfInsert a.table w n (h ++ e ∷ []) → (length (numbered a.table h) < n) ⊎ (n ≤ length (numbered a.table h)) → n ≤ length (numbered a.table h)
+    below w n at (inr upto) = upto
+    below w n at (inl lt) =
+        let most = subst (λ (cs : List Command). n ≤ length cs) drawn (number_drawn a.table w n (h ++ e ∷ []) at) in
+        let many = length-append (numbered a.table h) (command.Alter a ∷ []) in
+        let place : n - 1 ≡ length (numbered a.table h) = omega (arith, most, many, lt) in
+        other at.insert (sym at.there ∙ (ap₂ slice_get drawn place ∙ slice_last (numbered a.table h) (command.Alter a)))
+
+-- ---- the mutations of longer histories
+
+-- a command that draws no number of a table leaves its mutations
+pub mutations_still : (t : List ℕ) (h : History) (e : Entry) → numbered t (e ∷ []) ≡ [] → mutations_in t (h ++ e ∷ []) ≡ mutations_in t h
+mutations_still t h e none =
+    ap (mutations_among 1) (numbered_more t h (e ∷ []) ∙ (ap (λ (cs : List Command). numbered t h ++ cs) none ∙ append-nil (numbered t h)))
+
+-- an INSERT leaves those of all tables
+pub mutations_inserted : (t : List ℕ) (h : History) (session : ℕ) (i : Insert) → mutations_in t (h ++ record { session = session; command = command.Insert i } ∷ []) ≡ mutations_in t h
+mutations_inserted t h session i = by (same_bytes i.table t) refl
+  where
+    e : Entry
+    e = record { session = session; command = command.Insert i }
+
+    by : (b : Bool) → same_bytes i.table t ≡ b → mutations_in t (h ++ record { session = session; command = command.Insert i } ∷ []) ≡ mutations_in t h
+    by true same =
+        ap (mutations_among 1) (numbered_more t h (e ∷ []) ∙ ap (λ (b : Bool). numbered t h ++ cond b (command.Insert i ∷ []) []) same)
+        ∙ (among_more 1 (numbered t h) (command.Insert i ∷ []) ∙ append-nil (mutations_in t h))
+    by false apart = mutations_still t h e (ap (λ (b : Bool). cond b (command.Insert i ∷ []) []) apart)
+
 -- ---- parts stand for a table in any order
 
 all_first : {X : Type 0} (P : X → Type 0) (xs : List X) (x : X) → AllByRecursion P (xs ++ x ∷ []) → AllByRecursion P (x ∷ xs)
@@ -246,7 +339,7 @@ all_placed P (y ∷ xs) ys x all = (all.0, all_placed P xs ys x all.1)
 pub placed_all : {X : Type 0} (P : X → Type 0) (xs ys : List X) (x : X) → All P ((xs ++ ys) ++ x ∷ []) → All P (xs ++ x ∷ ys)
 placed_all P xs ys x all = All-from_recursion P (xs ++ x ∷ ys) (all_placed P xs ys x (recursion_from_All P ((xs ++ ys) ++ x ∷ []) all))
 
-count_placed : (f : CorePart → Bool) (ps qs : List CorePart) (p : CorePart) → count_by f (ps ++ p ∷ qs) ≡ count_by f (ps ++ qs) + cond (f p) 1 0
+pub count_placed : (f : CorePart → Bool) (ps qs : List CorePart) (p : CorePart) → count_by f (ps ++ p ∷ qs) ≡ count_by f (ps ++ qs) + cond (f p) 1 0
 count_placed f [] qs p = let one = sum_by-cons (λ (q : CorePart). cond (f q) 1 0) p qs in omega (arith, one)
 count_placed f (x ∷ ps) qs p =
     let now = sum_by-cons (λ (q : CorePart). cond (f q) 1 0) x (ps ++ p ∷ qs) in

@@ -9,19 +9,22 @@ pub mod Orders
 pub mod OwnRows
 pub mod Portions
 pub mod Ranges
+pub mod Rewriting
 pub mod Schemas
-pub use Rattle.mt_model.proofs.Commands as MtModelCommands
-pub use Rattle.mt_model.proofs.Determined as MtModelDetermined
-pub use Rattle.mt_model.proofs.Growing as MtModelGrowing
-pub use Rattle.mt_model.proofs.Histories as MtModelHistories
-pub use Rattle.mt_model.proofs.Keys as MtModelKeys
-pub use Rattle.mt_model.proofs.Lists as MtModelLists
-pub use Rattle.mt_model.proofs.Merged as MtModelMerged
-pub use Rattle.mt_model.proofs.OneWay as MtModelOneWay
-pub use Rattle.mt_model.proofs.OwnColumns as MtModelOwnColumns
-pub use Rattle.mt_model.proofs.Places as MtModelPlaces
-pub use Rattle.mt_model.proofs.SameKeys as MtModelSameKeys
-pub use Rattle.mt_model.proofs.Sorting as MtModelSorting
-pub use Rattle.mt_model.proofs.Tables as MtModelTables
+pub mod Settled
+pub mod Versions
+pub use Rattle.rule_law.proofs.MtModelCommands
+pub use Rattle.rule_law.proofs.MtModelDetermined
+pub use Rattle.rule_law.proofs.MtModelGrowing
+pub use Rattle.rule_law.proofs.MtModelHistories
+pub use Rattle.rule_law.proofs.MtModelKeys
+pub use Rattle.rule_law.proofs.MtModelLists
+pub use Rattle.rule_law.proofs.MtModelMerged
+pub use Rattle.rule_law.proofs.MtModelOneWay
+pub use Rattle.rule_law.proofs.MtModelOwnColumns
+pub use Rattle.rule_law.proofs.MtModelPlaces
+pub use Rattle.rule_law.proofs.MtModelSameKeys
+pub use Rattle.rule_law.proofs.MtModelSorting
+pub use Rattle.rule_law.proofs.MtModelTables
 pub use Rattle.part_name.proofs.Merging as PartNameMerging
-pub use Rattle.mt_model.proofs.PredicateNarrowing
+pub use Rattle.rule_law.proofs.MtModelPredicateNarrowing as PredicateNarrowing

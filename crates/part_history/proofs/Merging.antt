@@ -1,35 +1,40 @@
 -- A run of neighbours of one partition, and the part that a merge makes of them.
-use Rattle.std.proofs.Common.{◌≡◌, ℕ, ◌+◌, ◌<◌, ◌≤◌, Bool, true, false, cond, ◌&&◌, List, [], ◌∷◌, ◌++◌, Some, None, map, refl, sym, ap, ap₂, ◌∙◌, subst, arith, suc, inl, inr, ◌⊎◌}
+use Rattle.std.proofs.Common.{◌≡◌, ℕ, ◌+◌, ◌<◌, ◌≤◌, Bool, true, false, cond, ◌&&◌, List, [], ◌∷◌, ◌++◌, Some, None, map, nat_le, refl, sym, ap, ap₂, ◌∙◌, subst, arith, suc, inl, inr, ◌⊎◌}
 use Rattle.std.specs.List.{flat_map, count_by, AllByRecursion, AllZip}
 use Rattle.std.specs.Ordering.{is_lt, nat_cmp, ordering_then}
 use Rattle.std.proofs.lemmas.Bool.{cases_lt}
+use Rattle.std.proofs.lemmas.Bool.Decides.{nat_tests}
 use Rattle.std.proofs.lemmas.List.{map-append}
-use Rattle.std.proofs.lemmas.List.Elements.{All-from_recursion, filter-append, recursion_from_All}
+use Rattle.std.proofs.lemmas.List.Elements.{All-from_recursion, All-nil, filter-append, recursion_from_All}
 use Rattle.std.proofs.lemmas.List.Sorted.{sorted_far}
 use Rattle.std.proofs.lemmas.List.Sums.{sum_by-append, sum_by-cons}
 use Rattle.mt_base.specs.declared.partition.Partition.{Partition}
 use Rattle.mt_values.specs.declared.command.Command.{Command}
+use Rattle.mt_values.specs.declared.mutation.Mutation.{Mutation}
 use Rattle.mt_values.specs.declared.schema.Schema.{Schema}
 use Rattle.mt_values.specs.Tables.{same_partition}
 use Rattle.mt_values.specs.Values.{Row}
-use Rattle.mt_model.specs.History.{History, IsLegal, schema_of}
-use Rattle.mt_model.specs.Live.{live}
-use Rattle.mt_model.specs.Numbers.{IsNumberOfInsert, Reach, lies_within, numbered, reached}
-use Rattle.mt_model.specs.Partial.{Partly}
-use Rattle.mt_model.proofs.Commands.{partition_is, same_itself}
-use Rattle.mt_model.proofs.Merged.{partly_append, partly_folded, partly_itself, partly_on}
-use Rattle.mt_model.proofs.Sorting.{sorted_tail}
+use Rattle.rule_law.specs.mt_model.History.{History, IsLegal, schema_of}
+use Rattle.rule_law.specs.mt_model.Live.{live}
+use Rattle.rule_law.specs.mt_model.Numbers.{IsNumberOfInsert, NoMutationBetween, Reach, last_number, lies_within, mutations_in, numbered, reached}
+use Rattle.rule_law.specs.mt_model.Partial.{Partly}
+use Rattle.rule_law.proofs.MtModelCommands.{partition_is, same_itself}
+use Rattle.rule_law.proofs.MtModelMerged.{partly_append, partly_folded, partly_itself, partly_on}
+use Rattle.rule_law.proofs.MtModelSorting.{sorted_tail}
+use Rattle.part_name.specs.Pending.{NoneParted, Parts}
 use Rattle.part_name.specs.declared.part.PartName.{PartName}
 use Rattle.part_name.specs.Merged.{RiseFrom, last_name, merged_name}
+use Rattle.part_name.specs.PartNames.{data_version}
 use Rattle.part_name.proofs.Merging.{merged_greatest, merged_least}
 use Rattle.part_history.specs.declared.part.CorePart.{CorePart}
 use Rattle.part_history.specs.Merges.{IsMergedPart, names_of, with_rows}
-use Rattle.part_history.specs.Parts.{AreInBlockOrder, PartStands, TableStands, block_cmp, has_block, partition_cmp, parts_in, reach_of_part}
-use Rattle.part_history.proofs.Joined.{OfPartition, all_of, begin_all, climbs_all, count_ranges, fits_all, fits_here, flat_maps, range_of, ranges_in}
-use Rattle.part_history.proofs.Numbered.{kept, kept_in, live_reached, sorted_by}
+use Rattle.part_history.specs.Parts.{AreInBlockOrder, PartStands, TableStands, WasMutated, block_cmp, has_block, partition_cmp, parts_in, reach_of_part}
+use Rattle.part_history.proofs.Joined.{OfPartition, all_of, begin_all, climbs_all, count_ranges, fits_all, flat_maps, from_full, full, of_full, own_partly, range_of, ranges_in}
 use Rattle.part_history.proofs.Ordered.{one_sorted, order_between, sorted_next}
 use Rattle.part_history.proofs.Orders.{block_weak, order_filtered}
 use Rattle.part_history.proofs.Ranges.{Apart, Begins, Climbs, IsOf, Range, Stays, count_cons, count_no, holds, lies_above, lies_below, lies_inside, none_low, ranges_apart, ranges_joined}
+use Rattle.part_history.proofs.Settled.{kept, kept_in, live_reached, rows_by, settled, settled_alike, upto}
+use Rattle.part_history.proofs.Versions.{Agree, agree_at, agree_back, agree_itself, agree_on, all_agree, merged_version, merged_was}
 
 -- ---- lists
 
@@ -171,7 +176,7 @@ none_after (x ∷ ps) p qs up =
     ((all_right (λ (q : CorePart). is_lt (block_cmp q x) ≡ false) ps (p ∷ qs) (head_first x (ps ++ p ∷ qs) up)).0, none_after ps p qs (sorted_tail block_cmp x (ps ++ p ∷ qs) up))
 
 -- a part that begins as the first of a run stands in block order in its place
-order_swapped : (front : List CorePart) (first : CorePart) (rest back : List CorePart) (part : CorePart) → AreInBlockOrder (front ++ ((first ∷ rest) ++ back)) → part.name.partition ≡ first.name.partition
+pub order_swapped : (front : List CorePart) (first : CorePart) (rest back : List CorePart) (part : CorePart) → AreInBlockOrder (front ++ ((first ∷ rest) ++ back)) → part.name.partition ≡ first.name.partition
     → part.name.min_block ≡ first.name.min_block → AreInBlockOrder (front ++ part ∷ back)
 order_swapped front first rest back part up same begin =
     let here = sorted_right front ((first ∷ rest) ++ back) up in
@@ -206,6 +211,22 @@ last_of_all : (P : ℕ → Type 0) (first : CorePart) (rest : List CorePart) →
 last_of_all P first [] all = all.0
 last_of_all P first (p ∷ rest) all = last_of_all P p rest all.1
 
+-- parts whose blocks begin no lower than this, one after another
+begins_low : (low : ℕ) (ps : List CorePart) → Climbs low (map range_of ps) → AllByRecursion (λ (p : CorePart). low ≤ p.name.min_block) ps
+begins_low low [] climbs = tt
+begins_low low (p ∷ ps) climbs = (climbs.0, all_weaker (λ (q : CorePart). p.name.min_block ≤ q.name.min_block) (λ (q : CorePart). low ≤ q.name.min_block) (λ q le. omega (arith, climbs.0, le)) ps (begins_low p.name.min_block ps climbs.1))
+
+-- what holds of each version and of each least block holds of those of their names
+both : (P : ℕ → Type 0) (low : ℕ) (ps : List CorePart) → AllByRecursion (λ (p : CorePart). P (data_version p.name)) ps → AllByRecursion (λ (p : CorePart). low ≤ p.name.min_block) ps
+    → AllByRecursion (λ (name : PartName). P (data_version name) × (low ≤ name.min_block)) (names_of ps)
+both P low [] one other = tt
+both P low (p ∷ ps) one other = ((one.0, other.0), both P low ps one.1 other.1)
+
+-- what holds of each name
+of_names : (P : PartName → Type 0) (ps : List CorePart) → AllByRecursion P (names_of ps) → AllByRecursion (λ (p : CorePart). P p.name) ps
+of_names P [] all = tt
+of_names P (p ∷ ps) all = (all.0, of_names P ps all.1)
+
 -- parts of one partition are all of its own
 own_in : (w : Partition) (ps : List CorePart) → AllByRecursion (OfPartition w) ps → parts_in w ps ≡ ps
 own_in w [] own = refl
@@ -224,6 +245,12 @@ parts_append f xs ys = sum_by-append (λ (q : CorePart). one_if (f q)) xs ys
 
 -- ---- the merge of a run
 
+-- no mutation parts parts of a table without any
+pub unparted_none : (names : List PartName) → NoneParted [] names
+unparted_none [] = tt
+unparted_none (a ∷ []) = tt
+unparted_none (a ∷ b ∷ names) = (All-nil (λ (m : Mutation). Parts a b m → ⊥), unparted_none (b ∷ names))
+
 module _ (h : History) (schema : Schema) (part : CorePart) (legal : IsLegal h) (there : schema_of part.table h ≡ Some schema) (front : List CorePart) (first : CorePart) (rest back : List CorePart)
     (m : IsMergedPart h schema (first ∷ rest) part) (stands : TableStands part.table (front ++ ((first ∷ rest) ++ back)) h) (up : AreInBlockOrder (front ++ ((first ∷ rest) ++ back))) where
   abbrev w : Partition
@@ -232,8 +259,12 @@ module _ (h : History) (schema : Schema) (part : CorePart) (legal : IsLegal h) (
   abbrev table : List ℕ
   table = part.table
 
+  -- the mutations up to this are made of all of them
+  abbrev version : ℕ
+  version = data_version part.name
+
   abbrev drawn : List Command
-  drawn = numbered table h
+  drawn = full h table schema legal there (upto version)
 
   abbrev sources : List CorePart
   sources = first ∷ rest
@@ -264,14 +295,14 @@ module _ (h : History) (schema : Schema) (part : CorePart) (legal : IsLegal h) (
       ∙ (map-append range_of (parts_in w front) (sources ++ parts_in w back) ∙ ap (λ (rs : List Range). ranges_in w front ++ rs) (map-append range_of sources (parts_in w back)))
 
   begin : AllByRecursion (Begins w drawn) (ranges_in w front ++ (map range_of sources ++ ranges_in w back))
-  begin = subst (AllByRecursion (Begins w drawn)) ranges_are (begin_all h table schema legal there w all (fits_all h table schema legal there all tables each))
+  begin = subst (AllByRecursion (Begins w drawn)) ranges_are (begin_all h table schema legal there (upto version) w all (fits_all h table schema legal there (upto version) all tables each))
 
   begin_here : AllByRecursion (Begins w drawn) (map range_of sources)
   begin_here = all_left (Begins w drawn) (map range_of sources) (ranges_in w back) (all_right (Begins w drawn) (ranges_in w front) (map range_of sources ++ ranges_in w back) begin)
 
   once : (n : ℕ) → IsOf w 1 drawn n → count_by (holds n) (ranges_in w front ++ (map range_of sources ++ ranges_in w back)) ≡ 1
   once n one =
-      let is : IsNumberOfInsert table w n h = record { from_one = one.from; insert = one.insert; there = one.there; partition_is = one.own } in
+      let is : IsNumberOfInsert table w n h = from_full h table schema legal there (upto version) w n one in
       ap (count_by (holds n)) (sym ranges_are) ∙ (sym (count_ranges w n all) ∙ stands.once w n is)
 
   climbs_here : Climbs first.name.min_block (map range_of rest)
@@ -307,19 +338,50 @@ module _ (h : History) (schema : Schema) (part : CorePart) (legal : IsLegal h) (
   last_is : last.1 ≡ high
   last_is = ap (λ (r : Range). r.1) (last_blocks first rest)
 
+  -- ---- their versions
+
+  abbrev ms : List Mutation
+  ms = mutations_in table h
+
+  firsts : Agree ms (data_version first.name) (data_version first.name)
+  firsts = agree_itself ms (data_version first.name)
+
+  names_agree : AllByRecursion (λ name. Agree ms (data_version name) (data_version first.name)) (names_of rest)
+  names_agree = all_agree ms (data_version first.name) first.name (names_of rest) firsts m.unparted
+
+  -- what holds of the version of each source holds of that of the part
+  version_holds : (P : ℕ → Type 0) → AllByRecursion (λ (p : CorePart). P (data_version p.name)) sources → P version
+  version_holds P each =
+      subst (λ (name : PartName). P (data_version name)) (sym name_is)
+      (merged_version P first.name (names_of rest) each.0 (both P low rest each.1 (begins_low low rest climbs_here)))
+
+  sources_agree : AllByRecursion (λ (p : CorePart). Agree ms (data_version p.name) (data_version first.name)) sources
+  sources_agree = (firsts, of_names (λ name. Agree ms (data_version name) (data_version first.name)) rest names_agree)
+
+  version_agrees : Agree ms version (data_version first.name)
+  version_agrees = version_holds (λ v. Agree ms v (data_version first.name)) sources_agree
+
+  agree_here : AllByRecursion (λ (p : CorePart). Agree ms (data_version p.name) version) sources
+  agree_here =
+      all_weaker (λ (p : CorePart). Agree ms (data_version p.name) (data_version first.name)) (λ (p : CorePart). Agree ms (data_version p.name) version)
+      (λ p same. agree_on ms (data_version p.name) (data_version first.name) version same (agree_back ms version (data_version first.name) version_agrees)) sources sources_agree
+
   -- the rows that they stand with, one part after another
   rows_joined : (ps : List CorePart) (inputs : List (List Row)) → AllByRecursion (OfPartition w) ps → AllByRecursion (λ (p : CorePart). p.table ≡ table) ps
+      → AllByRecursion (λ (p : CorePart). Agree ms (data_version p.name) version) ps
       → AllZip (λ (p : CorePart) (rows : List Row). PartStands h (with_rows p rows)) ps inputs
-      → Partly schema (flat_map (λ (r : Range). flat_map (sorted_by schema) (kept w r.0 r.1 1 drawn)) (map range_of ps)) (flat_map (λ (rows : List Row). rows) inputs)
-  rows_joined [] [] mine named stand = partly_itself schema []
-  rows_joined [] (rows ∷ inputs) mine named stand = absurd stand
-  rows_joined (p ∷ ps) [] mine named stand = absurd stand
-  rows_joined (p ∷ ps) (rows ∷ inputs) mine named stand =
-      let added : Range → List Row = λ r. flat_map (sorted_by schema) (kept w r.0 r.1 1 drawn) in
-      let fits = fits_here h table schema legal there (with_rows p rows) named.0 stand.0 in
+      → Partly schema (flat_map (λ (r : Range). flat_map rows_by (kept w r.0 r.1 1 drawn)) (map range_of ps)) (flat_map (λ (rows : List Row). rows) inputs)
+  rows_joined [] [] mine named same stand = partly_itself schema []
+  rows_joined [] (rows ∷ inputs) mine named same stand = absurd stand
+  rows_joined (p ∷ ps) [] mine named same stand = absurd stand
+  rows_joined (p ∷ ps) (rows ∷ inputs) mine named same stand =
+      let added : Range → List Row = λ r. flat_map rows_by (kept w r.0 r.1 1 drawn) in
+      let own = own_partly h table schema legal there (with_rows p rows) named.0 stand.0 in
+      let settles : settled schema (upto (data_version p.name)) 1 (numbered table h) ≡ drawn = settled_alike schema (upto (data_version p.name)) (upto version) 1 (numbered table h) same.0 in
       let here : Partly schema (added (range_of p)) rows =
-      subst (λ (v : Partition). Partly schema (flat_map (sorted_by schema) (kept v p.name.min_block p.name.max_block 1 drawn)) rows) mine.0 fits.partly in
-      partly_append schema (added (range_of p)) (flat_map added (map range_of ps)) rows (flat_map (λ (rows : List Row). rows) inputs) here (rows_joined ps inputs mine.1 named.1 stand.1)
+      subst (λ (v : Partition). Partly schema (flat_map rows_by (kept v p.name.min_block p.name.max_block 1 drawn)) rows) mine.0
+      (subst (λ (cs : List Command). Partly schema (flat_map rows_by (kept p.name.partition p.name.min_block p.name.max_block 1 cs)) rows) settles own) in
+      partly_append schema (added (range_of p)) (flat_map added (map range_of ps)) rows (flat_map (λ (rows : List Row). rows) inputs) here (rows_joined ps inputs mine.1 named.1 same.1 stand.1)
 
   -- what it reaches
   abbrev reach : Reach
@@ -330,12 +392,37 @@ module _ (h : History) (schema : Schema) (part : CorePart) (legal : IsLegal h) (
       let inputs = flat_map (λ (rows : List Row). rows) m.leaves.inputs in
       let run = run_joined w drawn (ranges_in w front) (range_of first) (map range_of rest) (ranges_in w back) begin_here climbs_here apart once in
       let blocks : kept w low last.1 1 drawn ≡ kept_in reach 1 drawn = ap₂ (λ (a b : ℕ). kept w a b 1 drawn) (sym low_is) (last_is ∙ sym high_is) in
-      let joined : flat_map (λ (r : Range). flat_map (sorted_by schema) (kept w r.0 r.1 1 drawn)) (map range_of sources) ≡ live table schema (reached reach h) =
-      flat_maps (sorted_by schema) (λ (r : Range). kept w r.0 r.1 1 drawn) (map range_of sources)
-      ∙ (ap (flat_map (sorted_by schema)) (run ∙ blocks) ∙ sym (live_reached schema reach h)) in
+      let joined : flat_map (λ (r : Range). flat_map rows_by (kept w r.0 r.1 1 drawn)) (map range_of sources) ≡ live table schema (reached reach h) =
+      flat_maps rows_by (λ (r : Range). kept w r.0 r.1 1 drawn) (map range_of sources)
+      ∙ (ap (flat_map rows_by) (run ∙ blocks) ∙ sym (live_reached schema reach h)) in
       partly_on schema (live table schema (reached reach h)) inputs part.rows
-      (subst (λ (rows : List Row). Partly schema rows inputs) joined (rows_joined sources m.leaves.inputs own tables_here m.leaves.stand))
+      (subst (λ (rows : List Row). Partly schema rows inputs) joined (rows_joined sources m.leaves.inputs own tables_here agree_here m.leaves.stand))
       (partly_folded schema inputs part.rows m.leaves.merges)
+
+  -- no mutation comes between its version and its greatest block, since none does for the last source
+  wholes : (ps : List CorePart) → AllByRecursion (λ (p : CorePart). p.table ≡ table) ps → AllByRecursion (PartStands h) ps → AllByRecursion (λ (p : CorePart). Agree ms (data_version p.name) version) ps
+      → AllByRecursion (λ (p : CorePart). NoMutationBetween table version p.name.max_block h) ps
+  wholes [] named stand same = tt
+  wholes (p ∷ ps) named stand same = (
+    λ n is lt le.
+        let agree = agree_at (data_version p.name) version n 1 (numbered table h) is.alter same.0 is.from_one is.there in
+        let not_upto : nat_le n version ≡ false = grind (arith, nat_tests, lt) in
+        let none : nat_le n (data_version p.name) ≡ false = agree ∙ not_upto in
+        let above : data_version p.name < n = grind (arith, nat_tests, none) in
+        subst (λ (t : List ℕ). NoMutationBetween t (data_version p.name) p.name.max_block h) named.0 stand.0.stands.whole n is above le,
+    wholes ps named.1 stand.1 same.1,
+  )
+
+  whole : NoMutationBetween table version high h
+  whole = last_of_all (λ b. NoMutationBetween table version b h) first rest (wholes sources tables_here each_here agree_here)
+
+  drawns : (ps : List CorePart) → AllByRecursion (λ (p : CorePart). p.table ≡ table) ps → AllByRecursion (PartStands h) ps → AllByRecursion (λ (p : CorePart). data_version p.name ≤ last_number table h) ps
+  drawns [] named stand = tt
+  drawns (p ∷ ps) named stand = (subst (λ (t : List ℕ). data_version p.name ≤ last_number t h) named.0 stand.0.stands.drawn, drawns ps named.1 stand.1)
+
+  were : (ps : List CorePart) → AllByRecursion (λ (p : CorePart). p.table ≡ table) ps → AllByRecursion (PartStands h) ps → AllByRecursion (λ (name : PartName). WasMutated table name.mutation h) (names_of ps)
+  were [] named stand = tt
+  were (p ∷ ps) named stand = (subst (λ (t : List ℕ). WasMutated t p.name.mutation h) named.0 stand.0.mutated, were ps named.1 stand.1)
 
   least : IsNumberOfInsert table w low h
   least = subst (λ (v : Partition). IsNumberOfInsert table v low h) own.0 (subst (λ (t : List ℕ). IsNumberOfInsert t first.name.partition low h) tables_here.0 each_here.0.stands.least)
@@ -358,10 +445,15 @@ module _ (h : History) (schema : Schema) (part : CorePart) (legal : IsLegal h) (
       record {
         schema = schema;
         there = there;
+        mutated =
+            let all = were sources tables_here each_here in
+            subst (λ (name : PartName). WasMutated table name.mutation h) (sym name_is) (merged_was table h first.name (names_of rest) all.0 all.1);
         stands = record {
           order = omega (arith, order, low_is, high_is, last_is);
           least = subst (λ n. IsNumberOfInsert table w n h) (sym low_is) least;
           greatest = subst (λ n. IsNumberOfInsert table w n h) (sym high_is) greatest;
+          drawn = version_holds (λ v. v ≤ last_number table h) (drawns sources tables_here each_here);
+          whole = subst (λ b. NoMutationBetween table version b h) (sym high_is) whole;
           rising = m.leaves.rising;
           partly = partly;
         };
@@ -370,7 +462,7 @@ module _ (h : History) (schema : Schema) (part : CorePart) (legal : IsLegal h) (
   -- each number is in the blocks of one part
   once_here : (n : ℕ) → IsNumberOfInsert table w n h → count_by (has_block w n) (front ++ part ∷ back) ≡ 1
   once_here n is =
-      let one : IsOf w 1 drawn n = record { from = is.from_one; insert = is.insert; there = is.there; own = is.partition_is } in
+      let one : IsOf w 1 drawn n = of_full h table schema legal there (upto version) w n is in
       let mine : CorePart → Bool = λ p. same_partition p.name.partition w in
       let ranges : ranges_in w (front ++ part ∷ back) ≡ ranges_in w front ++ (low, last.1) ∷ ranges_in w back =
       ap (map range_of) (filter-append mine front (part ∷ back) ∙ ap (λ b. parts_in w front ++ cond b (part ∷ parts_in w back) (parts_in w back)) (same_itself w))

@@ -12,9 +12,9 @@ use Rattle.mt_base.specs.declared.partition.Partition.{Partition}
 use Rattle.mt_base.specs.declared.partition.Partition.TheVariants.{Whole, Number}
 use Rattle.mt_values.specs.declared.command.Insert.{Insert}
 use Rattle.mt_values.specs.declared.schema.Schema.{Schema}
-use Rattle.mt_model.specs.History.{History}
-use Rattle.mt_model.specs.Numbers.{numbered}
-use Rattle.mt_model.proofs.Sorting.{sorted_tail}
+use Rattle.rule_law.specs.mt_model.History.{History}
+use Rattle.rule_law.specs.mt_model.Numbers.{numbered}
+use Rattle.rule_law.proofs.MtModelSorting.{sorted_tail}
 use Rattle.part_history.specs.declared.part.CorePart.{CorePart}
 use Rattle.part_history.specs.Entered.{next_number, part_of_insert, parts_after, parts_upto, with_part}
 use Rattle.part_history.specs.Parts.{AreInBlockOrder, TableStands, block_cmp, partition_cmp}

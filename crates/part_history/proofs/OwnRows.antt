@@ -8,18 +8,19 @@ use Rattle.mt_base.specs.declared.partition.Partition.{Partition}
 use Rattle.mt_values.specs.declared.schema.Schema.{Schema}
 use Rattle.mt_values.specs.Tables.{partition_of, same_partition, sorting_cmp}
 use Rattle.mt_values.specs.Values.{Row}
-use Rattle.mt_model.specs.Folding.{ComesFrom}
-use Rattle.mt_model.specs.History.{History, IsLegal, schema_of}
-use Rattle.mt_model.specs.Live.{live, of_key}
-use Rattle.mt_model.specs.Numbers.{Reach, reached}
-use Rattle.mt_model.specs.Partial.{TableRun}
-use Rattle.mt_model.proofs.Commands.{partition_is, same_itself}
-use Rattle.mt_model.proofs.Determined.{sorting_total}
-use Rattle.mt_model.proofs.Merged.{comes_none}
+use Rattle.rule_law.specs.mt_model.Folding.{ComesFrom}
+use Rattle.rule_law.specs.mt_model.History.{History, IsLegal, schema_of}
+use Rattle.rule_law.specs.mt_model.Live.{live, of_key}
+use Rattle.rule_law.specs.mt_model.Numbers.{Reach, numbered, reached}
+use Rattle.rule_law.specs.mt_model.Partial.{TableRun}
+use Rattle.rule_law.proofs.MtModelCommands.{partition_is, same_itself}
+use Rattle.rule_law.proofs.MtModelDetermined.{sorting_total}
+use Rattle.rule_law.proofs.MtModelMerged.{comes_none}
 use Rattle.part_history.specs.declared.part.CorePart.{CorePart}
 use Rattle.part_history.specs.Parts.{PartStands, TableStands, reach_of_part}
-use Rattle.part_history.proofs.Numbered.{all_into, kept_apart, live_reached}
+use Rattle.part_history.proofs.Numbered.{all_into, kept_apart, legal_schema}
 use Rattle.part_history.proofs.Schemas.{same_schema}
+use Rattle.part_history.proofs.Settled.{all_settled, live_reached, settled, upto}
 
 -- rows of which none has a key of another partition are of this one
 module _ (schema : Schema) (p : Partition) where
@@ -57,7 +58,9 @@ module _ (h : History) (legal : IsLegal h) where
   none_apart part s w row apart =
       let r : Reach = reach_of_part part in
       let none : of_key s.schema w row (live part.table s.schema (reached r h)) ≡ [] =
-      ap (of_key s.schema w row) (live_reached s.schema r h) ∙ kept_apart s.schema w row r.partition r.least r.greatest 1 _ (all_into part.table h s.schema legal s.there) apart in
+      ap (of_key s.schema w row) (live_reached s.schema r h)
+      ∙ kept_apart s.schema w row r.partition r.least r.greatest 1 (settled s.schema (upto r.version) 1 (numbered part.table h))
+      (all_settled s.schema (legal_schema part.table h s.schema legal s.there) (upto r.version) 1 (numbered part.table h) (all_into part.table h s.schema legal s.there)) apart in
       comes_none (TableRun s.schema) (of_key s.schema w row part.rows)
       (subst (λ (rows : List Row). ComesFrom (TableRun s.schema) rows (of_key s.schema w row part.rows)) none (s.stands.partly w row))
 

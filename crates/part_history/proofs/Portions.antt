@@ -5,9 +5,9 @@ use Rattle.std.proofs.lemmas.List.Elements.{All-from_recursion, recursion_from_A
 use Rattle.std.proofs.lemmas.List.Sums.{sum_by-cons}
 use Rattle.mt_base.specs.declared.partition.Partition.{Partition}
 use Rattle.mt_values.specs.declared.schema.Schema.{Schema}
-use Rattle.mt_model.specs.Explain.{Portion, PortionStands, PortionsStand, has_number}
-use Rattle.mt_model.specs.History.{History, schema_of}
-use Rattle.mt_model.specs.Reaches.{ReachStands}
+use Rattle.rule_law.specs.mt_model.Explain.{Portion, PortionStands, PortionsStand, has_number}
+use Rattle.rule_law.specs.mt_model.History.{History, schema_of}
+use Rattle.rule_law.specs.mt_model.Reaches.{ReachStands}
 use Rattle.part_history.specs.declared.part.CorePart.{CorePart}
 use Rattle.part_history.specs.Parts.{PartStands, TableStands, has_block, portion_of, reach_of_part}
 use Rattle.part_history.proofs.Schemas.{same_schema}

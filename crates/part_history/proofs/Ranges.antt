@@ -9,9 +9,9 @@ use Rattle.mt_values.specs.declared.command.Command.{Command}
 use Rattle.mt_values.specs.declared.command.Command.TheVariants as command
 use Rattle.mt_values.specs.declared.command.Insert.{Insert}
 use Rattle.mt_values.specs.Tables.{same_partition}
-use Rattle.mt_model.specs.Numbers.{lies_within}
-use Rattle.mt_model.proofs.Commands.{partition_is}
-use Rattle.part_history.proofs.Numbered.{is_kept, kept, kept_if}
+use Rattle.rule_law.specs.mt_model.Numbers.{lies_within}
+use Rattle.rule_law.proofs.MtModelCommands.{partition_is}
+use Rattle.part_history.proofs.Settled.{is_kept, kept, kept_if}
 
 -- the least and the greatest number of a range
 abbrev pub Range : Type 0
@@ -67,10 +67,12 @@ and_false false = refl
 kept_as : (w : Partition) (a b d e n : ℕ) (c : Command) → lies_within a b n ≡ lies_within d e n → is_kept w a b n c ≡ is_kept w d e n c
 kept_as w a b d e n (command.Create c) same = refl
 kept_as w a b d e n (command.Insert i) same = ap (λ s. same_partition i.partition w && s) same
+kept_as w a b d e n (command.Alter c) same = refl
 
 pub outside : (w : Partition) (a b n : ℕ) (c : Command) → lies_within a b n ≡ false → is_kept w a b n c ≡ false
 outside w a b n (command.Create c) is = refl
 outside w a b n (command.Insert i) is = ap (λ s. same_partition i.partition w && s) is ∙ and_false (same_partition i.partition w)
+outside w a b n (command.Alter c) is = refl
 
 pub kept_above : (w : Partition) (a b n : ℕ) (cs : List Command) → b < n → kept w a b n cs ≡ []
 kept_above w a b n [] lt = refl
@@ -143,6 +145,7 @@ kept_none w a b n (c ∷ cs) none =
   where
     first : (d : Command) → ((m : ℕ) → a ≤ m → m ≤ b → IsOf w n (d ∷ cs) m → ⊥) → is_kept w a b n d ≡ false
     first (command.Create d) none = refl
+    first (command.Alter d) none = refl
     first (command.Insert i) none = by (same_partition i.partition w) refl (cases_lt n a) (cases_lt b n)
       where
         by : (x : Bool) → same_partition i.partition w ≡ x → (n < a) ⊎ (a ≤ n) → (b < n) ⊎ (n ≤ b) → x && lies_within a b n ≡ false

@@ -5,9 +5,9 @@ use Rattle.mt_base.specs.declared.partition.Partition.{Partition}
 use Rattle.mt_values.specs.declared.command.Insert.{Insert}
 use Rattle.mt_values.specs.declared.schema.Schema.{Schema}
 use Rattle.mt_values.specs.Tables.{sorting_cmp}
-use Rattle.mt_model.specs.History.{History}
-use Rattle.mt_model.specs.Live.{sorted}
-use Rattle.mt_model.specs.Numbers.{last_number}
+use Rattle.rule_law.specs.mt_model.History.{History}
+use Rattle.rule_law.specs.mt_model.Live.{sorted}
+use Rattle.rule_law.specs.mt_model.Numbers.{last_number}
 use Rattle.part_history.specs.declared.part.CorePart.{CorePart}
 use Rattle.part_history.specs.Parts.{partition_cmp}
 

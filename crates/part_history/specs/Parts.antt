@@ -1,5 +1,5 @@
 -- Parts that stand for a history (docs/definitions.md, "The core").
-use Rattle.std.specs.Prelude.{◌≡◌, ◌&&◌, ℕ, Bool, List, All, Some, filter}
+use Rattle.std.specs.Prelude.{◌≡◌, ◌&&◌, ℕ, Bool, List, All, Option, Some, None, filter}
 use Rattle.std.specs.List.{count_by, flat_map}
 use Rattle.std.specs.List.Sorted.{IsSorted}
 use Rattle.std.specs.Ordering.{nat_cmp, ordering_then}
@@ -7,14 +7,17 @@ use Rattle.std.specs.declared.cmp.Ordering.{Ordering}
 use Rattle.std.specs.declared.cmp.Ordering.TheVariants.{Less, Equal, Greater}
 use Rattle.mt_base.specs.declared.partition.Partition.{Partition}
 use Rattle.mt_base.specs.declared.partition.Partition.TheVariants.{Whole, Number}
+use Rattle.mt_values.specs.declared.mutation.Mutation.{Mutation}
 use Rattle.mt_values.specs.declared.schema.Schema.{Schema}
+use Rattle.mt_values.specs.Changes.{mutated}
 use Rattle.mt_values.specs.Grammar.{same_bytes}
 use Rattle.mt_values.specs.Tables.{same_partition}
 use Rattle.mt_values.specs.Values.{Row}
-use Rattle.mt_model.specs.Explain.{Portion}
-use Rattle.mt_model.specs.History.{History, schema_of}
-use Rattle.mt_model.specs.Numbers.{IsNumberOfInsert, Reach, lies_within}
-use Rattle.mt_model.specs.Reaches.{ReachStands}
+use Rattle.rule_law.specs.mt_model.Explain.{Portion}
+use Rattle.rule_law.specs.mt_model.History.{History, schema_of}
+use Rattle.rule_law.specs.mt_model.Numbers.{IsNumberOfInsert, IsNumberOfMutation, Reach, lies_within}
+use Rattle.rule_law.specs.mt_model.Reaches.{ReachStands}
+use Rattle.part_name.specs.Pending.{pending_for}
 use Rattle.part_name.specs.declared.part.PartName.{PartName}
 use Rattle.part_name.specs.PartNames.{data_version}
 use Rattle.part_history.specs.declared.part.CorePart.{CorePart}
@@ -30,6 +33,14 @@ parts_in partition parts = filter (λ (p : CorePart). same_partition p.name.part
 -- the rows of parts, one part after another (docs/definitions.md, "The core")
 abbrev pub rows_of_parts : List CorePart → List Row
 rows_of_parts parts = flat_map (λ (p : CorePart). p.rows) parts
+
+-- the rows of a part after the mutations for which it waits (docs/definitions.md, "The core")
+abbrev pub rows_seen : List Mutation → CorePart → List Row
+rows_seen mutations part = mutated (pending_for mutations part.name) part.rows
+
+-- those of parts, one part after another (docs/definitions.md, "The core")
+abbrev pub rows_seen_of : List Mutation → List CorePart → List Row
+rows_seen_of mutations parts = flat_map (rows_seen mutations) parts
 
 -- whether a part is of the partition, and the number lies within its blocks (docs/definitions.md, "The core")
 abbrev pub has_block : Partition → ℕ → CorePart → Bool
@@ -49,10 +60,16 @@ reach_of table name = record {
 abbrev pub reach_of_part : CorePart → Reach
 reach_of_part part = reach_of part.table part.name
 
--- a part stands for the INSERTs into its table and partition whose numbers lie within its blocks, of which there is one at least (docs/definitions.md, "The core")
+-- the mutation that a part's name has, where it has one, is the number of one of its table (docs/definitions.md, "The core")
+abbrev pub WasMutated : List ℕ → Option ℕ → History → Type 0
+WasMutated table None h = Unit {0}
+WasMutated table (Some n) h = IsNumberOfMutation table n h
+
+-- a part stands for the INSERTs into its table and partition whose numbers lie within its blocks, of which there is one at least, after the mutations up to its data version (docs/definitions.md, "The core")
 pub record PartStands (h : History) (part : CorePart) : Type 0 where
   pub schema : Schema
   pub there : schema_of part.table h ≡ Some schema
+  pub mutated : WasMutated part.table part.name.mutation h
   pub stands : ReachStands h schema (reach_of_part part) part.rows
 
 -- parts of one table stand for its commands: each number of an INSERT is in the blocks of exactly one of its partition (docs/definitions.md, "The core")

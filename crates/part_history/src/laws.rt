@@ -2,34 +2,39 @@
 ghost use Rattle.std.specs.Prelude.{◌≡◌, ◌≢◌, ◌⊎◌, ◌<◌, ◌≤◌, ◌++◌, ◌∷◌, [], All, List, ℕ, Some, length, map, slice_get};
 ghost use Rattle.mt_base.specs.declared.partition.Partition.{Partition};
 ghost use Rattle.mt_values.specs.declared.command.Command.TheVariants as command;
+ghost use Rattle.mt_values.specs.declared.command.Alter.{Alter};
 ghost use Rattle.mt_values.specs.declared.command.Insert.{Insert};
 ghost use Rattle.mt_values.specs.declared.schema.Schema.{Schema};
 ghost use Rattle.mt_values.specs.Tables.{MayHavePartition, partition_of};
-ghost use Rattle.mt_model.specs.Explain.{PortionsStand};
-ghost use Rattle.mt_model.specs.History.{History, IsLegal, entered, inserts, schema_of};
-ghost use Rattle.mt_model.specs.Live.{live};
-ghost use Rattle.mt_model.specs.Numbers.{numbered};
-ghost use Rattle.mt_model.specs.Partial.{Partly};
+ghost use Rattle.rule_law.specs.mt_model.Explain.{PortionsStand};
+ghost use Rattle.rule_law.specs.mt_model.History.{History, IsLegal, entered, inserts, schema_of};
+ghost use Rattle.rule_law.specs.mt_model.Live.{live};
+ghost use Rattle.rule_law.specs.mt_model.Numbers.{mutations_in, numbered};
+ghost use Rattle.rule_law.specs.mt_model.Partial.{Partly};
 ghost use Rattle.part_name.specs.PartNames.{Before, IsPartName};
 ghost use Rattle.part_history.specs.declared.part.CorePart.{CorePart};
 ghost use Rattle.part_history.specs.Entered.{next_number, part_of_insert, parts_after, parts_upto, with_part};
-ghost use Rattle.part_history.specs.Merges.{IsMergedPart};
-ghost use Rattle.part_history.specs.Parts.{AreInBlockOrder, TableStands, parts_in, portion_of, rows_of_parts};
+ghost use Rattle.part_history.specs.Merges.{IsMergedPart, IsRewrittenPart};
+ghost use Rattle.part_history.specs.Parts.{AreInBlockOrder, TableStands, parts_in, portion_of, rows_seen_of};
 
-/// The rows of the parts that stand for a table, part after part in block order, are what merges may have left of its live rows.
+/// The rows of the parts that stand for a table, each part's after the mutations for which it waits, part after part in block
+/// order, are what merges may have left of its live rows.
 pub fn parts_stand_for_live_rows()
     ensures { (h : History) (table : List ℕ) (schema : Schema) (parts : List CorePart) → IsLegal h
         → schema_of table h ≡ Some schema → TableStands table parts h → AreInBlockOrder parts
-        → Partly schema (live table schema h) (rows_of_parts parts) }
+        → Partly schema (live table schema h) (rows_seen_of (mutations_in table h) parts) }
 {}
 
-/// The parts that stand for a table stand for it as the history grows: where nothing drew a number of it they stay, and an
-/// INSERT into it adds the part that it makes, wherever that stands among them. In block order it is the last part of its
-/// partition, and the others stay in their order.
+/// The parts that stand for a table stand for it as the history grows: where nothing drew a number of it they stay, and so they
+/// do where a mutation of it comes; an INSERT into it adds the part that it makes, wherever that stands among them. In block
+/// order it is the last part of its partition, and the others stay in their order.
 pub fn parts_stand_as_histories_grow()
     ensures other { (h more : History) (table : List ℕ) (parts : List CorePart)
         → numbered table more ≡ [] → TableStands table parts h
         → TableStands table parts (h ++ more) }
+    ensures mutation { (h : History) (session : ℕ) (a : Alter) (parts : List CorePart)
+        → TableStands a.table parts h
+        → TableStands a.table parts (entered h session (command.Alter a ∷ [])) }
     ensures insert { (h : History) (session : ℕ) (i : Insert) (schema : Schema)
         (front back : List CorePart) → schema_of i.table h ≡ Some schema
         → TableStands i.table (front ++ back) h
@@ -56,6 +61,18 @@ pub fn merged_parts_stand()
         → IsMergedPart h schema sources part
         → TableStands part.table (front ++ (sources ++ back)) h
         → AreInBlockOrder (front ++ (sources ++ back))
+        → AreInBlockOrder (front ++ part ∷ back) }
+{}
+
+/// Parts that stand for a table in block order still do so where one of them is replaced by what a rewrite may make of it.
+pub fn rewritten_parts_stand()
+    ensures stand { (h : History) (schema : Schema) (front back : List CorePart)
+        (source part : CorePart) (upto : ℕ) → IsLegal h → schema_of part.table h ≡ Some schema
+        → IsRewrittenPart h source upto part → TableStands part.table (front ++ source ∷ back) h
+        → TableStands part.table (front ++ part ∷ back) h }
+    ensures order { (h : History) (schema : Schema) (front back : List CorePart)
+        (source part : CorePart) (upto : ℕ) → IsLegal h → schema_of part.table h ≡ Some schema
+        → IsRewrittenPart h source upto part → AreInBlockOrder (front ++ source ∷ back)
         → AreInBlockOrder (front ++ part ∷ back) }
 {}
 

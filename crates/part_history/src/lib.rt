@@ -6,9 +6,10 @@ mod part;
 
 pub use laws::{
     merged_parts_stand, parts_are_at_most_inserts, parts_are_portions, parts_stand_apart,
-    parts_stand_as_histories_grow, parts_stand_for_live_rows, rows_are_of_their_partition,
+    parts_stand_as_histories_grow, parts_stand_for_live_rows, rewritten_parts_stand,
+    rows_are_of_their_partition,
 };
-pub use mt_model;
-pub use mt_model::predicate;
 pub use part::CorePart;
 pub use part_name;
+pub use rule_law::mt_model;
+pub use rule_law::mt_model::predicate;
