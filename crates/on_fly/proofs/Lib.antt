@@ -1,2 +1,3 @@
+pub mod ByColumns
 pub mod Marking
 pub mod Steps

@@ -9,7 +9,7 @@ use Rattle.mt_values.specs.Values.{Row}
 use Rattle.on_fly.specs.Updates.{assigned_from}
 
 -- a fold of one item more
-fold_more : {A B : Type 0} (f : B → A → B) (start : B) (xs : List A) (i : ℕ) (d : A) → i < length xs → fold f start (take (i + 1) xs) ≡ f (fold f start (take i xs)) (get_or xs i d)
+pub fold_more : {A B : Type 0} (f : B → A → B) (start : B) (xs : List A) (i : ℕ) (d : A) → i < length xs → fold f start (take (i + 1) xs) ≡ f (fold f start (take i xs)) (get_or xs i d)
 fold_more f start [] i d lt = absurd (omega (arith, lt))
 fold_more f start (x ∷ xs) zero d lt = refl
 fold_more f start (x ∷ xs) (suc i) d lt =

@@ -1,7 +1,11 @@
 // That calls come to an answer where memory is ample. The answers were worked by hand.
+mod blocks;
+
 use crate::{apply, unknown_columns};
 use mt_base::{NoMemory, Seq};
-use mt_values::{Assigned, Assignment, Change, Comparison, Expr, Mutation, Row, Test, Value};
+use mt_values::{
+    Assigned, Assignment, Change, Comparison, Expr, Literals, Mutation, Row, Test, Value,
+};
 use std::alloc::Global;
 use std::test::Fail;
 
@@ -23,7 +27,7 @@ fn first_is(alloc: Global, number: u8) -> Result<Expr<Test>, NoMemory> {
         Test {
             column: 0,
             comparison: Comparison::Equal,
-            literals,
+            literals: Literals::of(alloc, literals)?,
         },
     )
 }
