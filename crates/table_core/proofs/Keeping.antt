@@ -1,5 +1,5 @@
 -- What always holds of the store, after one more event.
-use Rattle.std.proofs.Common.{◌≡◌, ℕ, ◌+◌, ◌<◌, ◌≤◌, Bool, true, false, cond, ◌||◌, List, [], ◌∷◌, ◌++◌, Option, Some, None, length, map, filter, slice_get, get_or, take, All, is_some, refl, sym, ap, ap₂, ◌∙◌, subst, append_assoc, append-nil, length-append, arith, inl, inr, ◌⊎◌}
+use Rattle.std.proofs.Common.{◌≡◌, ℕ, ◌+◌, ◌<◌, ◌≤◌, Bool, true, false, cond, ◌||◌, List, [], ◌∷◌, ◌++◌, Option, Some, None, length, map, filter, slice_get, get_or, take, All, is_some, refl, sym, ap, ap₂, ◌∙◌, subst, append_assoc, append-nil, length-append, arith, rules, inl, inr, ◌⊎◌}
 use Rattle.std.specs.Prelude.{IfNone, IfSome, IsSome}
 use Rattle.std.specs.List.{AllByRecursion, list_any}
 use Rattle.std.specs.Map.{values_of}
@@ -8,12 +8,15 @@ use Rattle.std.proofs.lemmas.Bool.{cases_lt}
 use Rattle.std.proofs.lemmas.List.{get_or_default, length-map, map-append}
 use Rattle.std.proofs.lemmas.List.Concat.{flat_map-append}
 use Rattle.std.proofs.lemmas.List.Elements.{All-from_recursion, All-nil, All-push, All-weaker, filter-append, recursion_from_All}
+use Rattle.std.proofs.lemmas.List.Kept.{AllPairs-cons}
 use Rattle.indexmap.specs.IndexMap.{set_value_at}
+use Rattle.mt_values.specs.declared.command.Alter.{Alter}
 use Rattle.mt_values.specs.declared.command.Command.{Command}
 use Rattle.mt_values.specs.declared.command.Command.TheVariants as command
 use Rattle.mt_values.specs.declared.command.Create.{Create}
 use Rattle.mt_values.specs.declared.command.Entry.{Entry}
 use Rattle.mt_values.specs.declared.command.Insert.{Insert}
+use Rattle.mt_values.specs.declared.mutation.Mutation.{Mutation}
 use Rattle.mt_values.specs.declared.schema.Column.{Column}
 use Rattle.mt_values.specs.declared.schema.Schema.{Schema}
 use Rattle.mt_values.specs.declared.value.ColType.{ColType}
@@ -24,6 +27,7 @@ use Rattle.mt_values.specs.Tables.{sorting_columns}
 use Rattle.mt_values.specs.Values.{Row}
 use Rattle.mt_values.proofs.Grids.{filter_map_more}
 use Rattle.part_history.specs.mt_model.History.{History, IsAllowed, IsInsertInto, IsLegal, IsLegalAfter, IsTableSchema, creates, entered, first_of, is_create, schema_by, schema_of}
+use Rattle.part_history.specs.mt_model.Mutations.{IsChangeOf}
 use Rattle.part_history.specs.mt_model.Live.{sorted}
 use Rattle.part_history.proofs.MtModelDetermined.{key_total}
 use Rattle.part_history.proofs.MtModelHistories.{numbered_more, schema_kept, schema_more}
@@ -31,28 +35,33 @@ use Rattle.part_history.proofs.MtModelOwnColumns.{sorting_own}
 use Rattle.part_history.proofs.MtModelSameKeys.{stable_is_sorted}
 use Rattle.part_history.proofs.MtModelTables.{itself_same, same_is}
 use Rattle.part_history.specs.part_name.declared.part.PartName.{PartName}
-use Rattle.part_history.specs.part_name.Merged.{merged_name, merged_of}
+use Rattle.part_history.specs.part_name.Merged.{merged_name, rewritten}
+use Rattle.part_history.specs.part_name.Pending.{Rise}
+use Rattle.mutation_queue.specs.Queue.{mutations_of}
 use Rattle.part_history.specs.declared.part.CorePart.{CorePart}
 use Rattle.part_history.specs.Merges.{names_of}
 use Rattle.table_core.specs.declared.event.Guard.TheVariants as guard
 use Rattle.table_core.specs.declared.event.Put.{Put}
 use Rattle.table_core.specs.declared.event.Outcome.TheVariants as outcome
+use Rattle.table_core.specs.declared.event.Task.{Task}
+use Rattle.table_core.specs.declared.event.Task.TheVariants as task
 use Rattle.table_core.specs.declared.snapshot.Snapshot.{Snapshot}
 use Rattle.table_core.specs.declared.store.Run.{Run}
 use Rattle.table_core.specs.declared.store.Store.{Store}
 use Rattle.table_core.specs.declared.store.Table.{Table}
-use Rattle.table_core.specs.Core.{Core, IsCore}
-use Rattle.part_history.specs.mt_model.Numbers.{draws, numbered}
-use Rattle.part_history.specs.Parts.{AreInBlockOrder, TableStands, core_parts_of}
+use Rattle.table_core.specs.Core.{Core, IsCore, IsSnapshot, empty_core}
+use Rattle.part_history.specs.mt_model.Numbers.{draws, mutations_among, mutations_in, numbered}
+use Rattle.part_history.specs.Parts.{AreInBlockOrder, PartStands, TableStands, core_parts_of}
 use Rattle.part_history.specs.Entered.{part_of_insert, parts_after, parts_upto, with_part}
-use Rattle.table_core.specs.Steps.{AcceptsInsert, AddsPart, HasNeighbours, MayPut, PutGives, PutsMerge, beside, part_of_put, snapshot_of, sources_among}
-use Rattle.table_core.specs.Store.{AddsTable, IsNotNamed, IsStore, Named, SameTables, RunStands, StandsAt, TableKept, core_of, empty_table, grown_table, name_by, parts_of_tables, swapped_table, table_names}
+use Rattle.table_core.specs.Steps.{AcceptsInsert, AddsPart, AlterGives, AreMade, FitsLevel, HasNeighbours, MayJoin, MayJoinHere, MayPut, PutGives, PutsPart, beside, name_made, names_put, part_of_put, snapshot_of, sources_among}
+use Rattle.table_core.specs.Store.{AddsMutation, AddsTable, IsNotNamed, IsStore, Named, SameTables, RunStands, StandsAt, TableKept, core_of, drawn_table, empty_table, grown_table, name_by, parts_of_tables, swapped_table, table_names}
 use Rattle.part_history.proofs.Merging.{all_swapped}
-use Rattle.part_history.proofs.Growing.{drawn_apart, drawn_here, placed_all}
+use Rattle.part_history.proofs.Growing.{drawn_apart, drawn_here, mutations_inserted, mutations_still, placed_all}
 use Rattle.part_history.proofs.Numbered.{legal_schema}
 use Rattle.part_history.proofs.Ordered.{order_grown, parts_parted}
+use Rattle.part_history.proofs.Settled.{among_more}
 use Rattle.table_core.proofs.Neighbours.{run_swapped, sources_length}
-use Rattle.table_core.proofs.Stepping.{create_core, insert_core, put_core, take_core}
+use Rattle.table_core.proofs.Stepping.{alter_core, create_core, insert_core, put_core, take_core}
 use Rattle.table_core.proofs.Stored.{one_value, same_turned, set_here, slice_here}
 
 -- ---- histories
@@ -64,6 +73,7 @@ names_more (e ∷ h) more = ap (λ (ns : List (List ℕ)). name_by e.command ++ 
 creates_by : (c : Command) (e : Entry) (h : History) → length (cond (is_create c) (e ∷ h) h) ≡ length (name_by c) + length h
 creates_by (command.Create c) e h = omega arith
 creates_by (command.Insert i) e h = omega arith
+creates_by (command.Alter a) e h = omega arith
 
 -- as many tables were made as there are names
 creates_are : (h : History) → creates h ≡ length (table_names h)
@@ -76,6 +86,7 @@ there_by : (t : List ℕ) (c : Command) (o : Option Schema) (ts : List (List ℕ
 there_by t (command.Create c) o ts is =
     elim (same_bytes c.table t) as (λ b. is_some (first_of (cond b (Some c.schema) None) o) ≡ (b || list_any (λ u. same_bytes u t) ts)) [ true ↦ refl | false ↦ is ]
 there_by t (command.Insert i) o ts is = is
+there_by t (command.Alter a) o ts is = is
 
 -- which tables there are
 there : (t : List ℕ) (h : History) → is_some (schema_of t h) ≡ list_any (λ u. same_bytes u t) (table_names h)
@@ -100,10 +111,79 @@ none_after t before (e ∷ h) legal none = by e.command refl legal.0 (none_after
             let found : None ≡ Some allowed.0 = sym none ∙ schema_kept t before (e ∷ h) allowed.0 here in
             cc
         named false apart = rest
+    by (command.Alter a) is allowed rest = named (same_bytes a.table t) refl
+      where
+        named : (b : Bool) → same_bytes a.table t ≡ b → cond b (command.Alter a ∷ numbered t h) (numbered t h) ≡ []
+        named true same =
+            let here : schema_of t before ≡ Some allowed.0 = ap (λ u. schema_of u before) (sym (same_is a.table t same)) ∙ allowed.1 in
+            let found : None ≡ Some allowed.0 = sym none ∙ schema_kept t before (e ∷ h) allowed.0 here in
+            cc
+        named false apart = rest
 
 -- without its table no command drew a number
 pub none_numbered : (t : List ℕ) (h : History) → IsLegal h → schema_of t h ≡ None → numbered t h ≡ []
 none_numbered t h legal none = none_after t [] h legal none
+
+-- ---- mutations of histories
+
+-- a mutation comes after those of its table, with the next number
+mutations_altered : (h : History) (session : ℕ) (a : Alter) → mutations_in a.table (h ++ record { session = session; command = command.Alter a } ∷ [])
+    ≡ mutations_in a.table h ++ record { number = length (numbered a.table h) + 1; change = a.change } ∷ []
+mutations_altered h session a =
+    let e : Entry = record { session = session; command = command.Alter a } in
+    let turn : 1 + length (numbered a.table h) ≡ length (numbered a.table h) + 1 = omega arith in
+    ap (mutations_among 1) (numbered_more a.table h (e ∷ []) ∙ ap (λ (b : Bool). numbered a.table h ++ cond b (command.Alter a ∷ []) []) (itself_same a.table))
+    ∙ (among_more 1 (numbered a.table h) (command.Alter a ∷ [])
+    ∙ ap (λ (n : ℕ). mutations_in a.table h ++ record { number = n; change = a.change } ∷ []) turn)
+
+-- no mutation has a number above the last that was drawn
+numbers_below : (n : ℕ) (cs : List Command) → AllByRecursion (λ (m : Mutation). m.number < n + length cs) (mutations_among n cs)
+numbers_below n [] = tt
+numbers_below n (c ∷ cs) = by c (subst (λ (k : ℕ). AllByRecursion (λ (m : Mutation). m.number < k) (mutations_among (n + 1) cs)) (next c) (numbers_below (n + 1) cs))
+  where
+    next : (c : Command) → (n + 1) + length cs ≡ n + length (c ∷ cs)
+    next c = omega arith
+
+    by : (c : Command) → AllByRecursion (λ (m : Mutation). m.number < n + length (c ∷ cs)) (mutations_among (n + 1) cs) → AllByRecursion (λ (m : Mutation). m.number < n + length (c ∷ cs)) (mutations_among n (c ∷ cs))
+    by (command.Create x) rest = rest
+    by (command.Insert i) rest = rest
+    by (command.Alter a) rest = (omega arith, rest)
+
+-- and each has one above those before it
+numbers_above : (k n : ℕ) (cs : List Command) → k < n → AllByRecursion (λ (m : Mutation). k < m.number) (mutations_among n cs)
+numbers_above k n [] lt = tt
+numbers_above k n (c ∷ cs) lt = by c (numbers_above k (n + 1) cs (omega (arith, lt)))
+  where
+    by : (c : Command) → AllByRecursion (λ (m : Mutation). k < m.number) (mutations_among (n + 1) cs) → AllByRecursion (λ (m : Mutation). k < m.number) (mutations_among n (c ∷ cs))
+    by (command.Create x) rest = rest
+    by (command.Insert i) rest = rest
+    by (command.Alter a) rest = (lt, rest)
+
+rise_among : (n : ℕ) (cs : List Command) → Rise (mutations_among n cs)
+rise_among n [] = λ i j d lt within. absurd (omega (arith, lt, within))
+rise_among n (c ∷ cs) = by c (rise_among (n + 1) cs)
+  where
+    above : All (λ (m : Mutation). n < m.number) (mutations_among (n + 1) cs)
+    above = All-from_recursion (λ (m : Mutation). n < m.number) (mutations_among (n + 1) cs) (numbers_above n (n + 1) cs (omega arith))
+
+    by : (c : Command) → Rise (mutations_among (n + 1) cs) → Rise (mutations_among n (c ∷ cs))
+    by (command.Create x) rest = rest
+    by (command.Insert i) rest = rest
+    by (command.Alter a) rest = AllPairs-cons (λ (x y : Mutation). x.number < y.number) (record { number = n; change = a.change }) (mutations_among (n + 1) cs) above rest
+
+-- those of a snapshot rise
+pub snapshot_rises : (store : Store) (number : ℕ) (s : Snapshot) → IsStore store → number < length store.snapshots.items → s ≡ get_or store.snapshots.items number s → Rise s.mutations
+snapshot_rises store number s is below at =
+    let h = store.entries.items in
+    let one : IsSnapshot h s = subst (IsSnapshot h) (sym at) (is.core.snapshots number s below) in
+    subst Rise (sym one.mutations) (rise_among 1 (numbered s.table (take s.length h)))
+
+-- all that a table has are below the next number
+pub numbers_before : (t : List ℕ) (h : History) → All (λ (m : Mutation). m.number < length (numbered t h) + 1) (mutations_in t h)
+numbers_before t h =
+    let turn : 1 + length (numbered t h) ≡ length (numbered t h) + 1 = omega arith in
+    All-from_recursion (λ (m : Mutation). m.number < length (numbered t h) + 1) (mutations_in t h)
+    (subst (λ (k : ℕ). AllByRecursion (λ (m : Mutation). m.number < k) (mutations_in t h)) turn (numbers_below 1 (numbered t h)))
 
 -- ---- what the tables say of the history
 
@@ -122,6 +202,28 @@ same_store old new is s = record {
   core = subst IsCore (sym (same_core old new s)) is.core;
   names = ap (map (λ (t : Named). t.0.items)) s.tables ∙ (is.names ∙ ap table_names (sym s.entries));
   each = subst (λ (ts : List Named). All (TableKept new.entries.items) ts) (sym s.tables) (subst (λ (h : History). All (TableKept h) old.tables.entries) (sym s.entries) is.each);
+  queue = λ t. s.mutations t ∙ (is.queue t ∙ ap (mutations_in t) (sym s.entries));
+}
+
+-- before any event it holds
+empty_is : IsCore empty_core
+empty_is = record {
+  legal = tt;
+  parts = λ t. record {
+    own = All-nil (λ (p : CorePart). p.table ≡ t);
+    each = All-nil (PartStands []);
+    once = λ w n is. let none : None ≡ Some (command.Insert is.insert) = is.there in cc;
+  };
+  order = λ t. search rules;
+  snapshots = All-nil (IsSnapshot []);
+}
+
+pub empty_store : (store : Store) → store.tables.entries ≡ [] → ((t : List ℕ) → mutations_of store.mutations t ≡ []) → store.entries.items ≡ [] → store.snapshots.items ≡ [] → IsStore store
+empty_store store tables queue entries snapshots = record {
+  core = subst IsCore (sym (core_is (core_of store) empty_core (ap parts_of_tables tables) entries snapshots)) empty_is;
+  names = ap (map (λ (t : Named). t.0.items)) tables ∙ ap table_names (sym entries);
+  each = subst (λ (ts : List Named). All (TableKept store.entries.items) ts) (sym tables) (All-nil (TableKept store.entries.items));
+  queue = λ t. queue t ∙ ap (mutations_in t) (sym entries);
 }
 
 module _ (store : Store) (is : IsStore store) where
@@ -240,7 +342,8 @@ table_still h e t none k = record {
 }
 
 module _ (old new : Store) (session : ℕ) (c : Create) (is : IsStore old) (adds : AddsTable c old.tables.entries new.tables.entries)
-    (entries : new.entries.items ≡ entered old.entries.items session (command.Create c ∷ [])) (snapshots : new.snapshots.items ≡ old.snapshots.items) where
+    (entries : new.entries.items ≡ entered old.entries.items session (command.Create c ∷ [])) (snapshots : new.snapshots.items ≡ old.snapshots.items)
+    (mutations : (t : List ℕ) → mutations_of new.mutations t ≡ mutations_of old.mutations t) where
   pub create_is : core_of new ≡ record { parts = parts_of_tables old.tables.entries; history = entered old.entries.items session (command.Create c ∷ []); snapshots = old.snapshots.items }
   create_is =
       core_is (core_of new) (record { parts = parts_of_tables old.tables.entries; history = entered old.entries.items session (command.Create c ∷ []); snapshots = old.snapshots.items })
@@ -270,6 +373,7 @@ module _ (old new : Store) (session : ℕ) (c : Create) (is : IsStore old) (adds
             ∙ (map-append name old.tables.entries (made ∷ [])
             ∙ (ap₂ (λ (ns : List (List ℕ)) (n : List ℕ). ns ++ n ∷ []) is.names adds.key_is ∙ (sym (names_more h (e ∷ [])) ∙ ap table_names (sym entries))));
         each = subst (λ (ts : List Named). All (TableKept new.entries.items) ts) (sym adds.tables_are) (subst (λ (x : History). All (TableKept x) (old.tables.entries ++ made ∷ [])) (sym entries) all);
+        queue = λ t. mutations t ∙ (is.queue t ∙ (sym (mutations_still t h e refl) ∙ ap (mutations_in t) (sym entries)));
       }
 
 -- ---- an INSERT
@@ -277,7 +381,8 @@ module _ (old new : Store) (session : ℕ) (c : Create) (is : IsStore old) (adds
 module _ (old new : Store) (session : ℕ) (i : Insert) (place number : ℕ) (is : IsStore old) (s : StandsAt old.tables.entries i.table place)
     (drawn : number ≡ length (numbered i.table old.entries.items) + 1) (fits : number ≤ 4294967295)
     (tables : new.tables.entries ≡ set_value_at old.tables.entries place (grown_table s.here.1 (part_of_insert s.here.1.schema number i) number))
-    (entries : new.entries.items ≡ entered old.entries.items session (command.Insert i ∷ [])) (snapshots : new.snapshots.items ≡ old.snapshots.items) where
+    (entries : new.entries.items ≡ entered old.entries.items session (command.Insert i ∷ [])) (snapshots : new.snapshots.items ≡ old.snapshots.items)
+    (mutations : (t : List ℕ) → mutations_of new.mutations t ≡ mutations_of old.mutations t) where
   abbrev part : CorePart
   part = part_of_insert s.here.1.schema number i
 
@@ -382,6 +487,90 @@ module _ (old new : Store) (session : ℕ) (i : Insert) (place number : ℕ) (is
             ∙ (ap (map name) (sym s.tables_are) ∙ (is.names ∙ (sym (append-nil (table_names h)) ∙ (sym (names_more h (e ∷ [])) ∙ ap table_names (sym entries)))))));
         each = subst (λ (ts : List Named). All (TableKept new.entries.items) ts) (sym tables_now)
             (subst (λ (x : History). All (TableKept x) (s.front ++ grown ∷ s.back)) (sym entries) (All-from_recursion (TableKept (h ++ e ∷ [])) (s.front ++ grown ∷ s.back) all));
+        queue = λ t. mutations t ∙ (is.queue t ∙ (sym (mutations_inserted t h session i) ∙ ap (mutations_in t) (sym entries)));
+      }
+
+-- ---- a mutation
+
+module _ (old new : Store) (session : ℕ) (a : Alter) (place number : ℕ) (is : IsStore old) (s : StandsAt old.tables.entries a.table place)
+    (drawn : number ≡ length (numbered a.table old.entries.items) + 1) (fits : number ≤ 4294967295)
+    (tables : new.tables.entries ≡ set_value_at old.tables.entries place (drawn_table s.here.1 number))
+    (entries : new.entries.items ≡ entered old.entries.items session (command.Alter a ∷ [])) (snapshots : new.snapshots.items ≡ old.snapshots.items)
+    (adds : AddsMutation a.table (record { number = number; change = a.change }) old.mutations new.mutations) where
+  abbrev altered : Named
+  altered = (s.here.0, drawn_table s.here.1 number)
+
+  altered_now : new.tables.entries ≡ s.front ++ altered ∷ s.back
+  altered_now =
+      tables
+      ∙ (ap₂ (λ (ts : List Named) (k : ℕ). set_value_at ts k (drawn_table s.here.1 number)) s.tables_are s.place_is ∙ set_here s.front s.back s.here (drawn_table s.here.1 number))
+
+  parts_same : parts_of_tables new.tables.entries ≡ parts_of_tables old.tables.entries
+  parts_same =
+      ap parts_of_tables altered_now
+      ∙ (flat_map-append (λ (t : Named). t.1.parts) s.front (altered ∷ s.back)
+      ∙ (sym (flat_map-append (λ (t : Named). t.1.parts) s.front (s.here ∷ s.back)) ∙ ap parts_of_tables (sym s.tables_are)))
+
+  pub alter_is : core_of new ≡ record { parts = parts_of_tables old.tables.entries; history = entered old.entries.items session (command.Alter a ∷ []); snapshots = old.snapshots.items }
+  alter_is =
+      core_is (core_of new) (record { parts = parts_of_tables old.tables.entries; history = entered old.entries.items session (command.Alter a ∷ []); snapshots = old.snapshots.items })
+      parts_same entries snapshots
+
+  pub alter_accepted : AlterGives (core_of old) session a (outcome.Accepted (length old.entries.items + 1)) (core_of new)
+  alter_accepted = (ap is_some (schema_here old is a.table place s), omega (arith, drawn, fits), refl, alter_is)
+
+  abbrev altering : Entry
+  altering = record { session = session; command = command.Alter a }
+
+  others_kept : (ts : List Named) → AllByRecursion (IsNotNamed a.table) ts → AllByRecursion (TableKept old.entries.items) ts → AllByRecursion (TableKept (old.entries.items ++ altering ∷ [])) ts
+  others_kept [] apart kept = tt
+  others_kept (t ∷ ts) apart kept =
+      let turned : same_bytes a.table t.0.items ≡ false = same_turned a.table t.0.items ∙ apart.0 in (
+        table_still old.entries.items altering t (ap (λ (b : Bool). cond b (command.Alter a ∷ []) []) turned) kept.0,
+        others_kept ts apart.1 kept.1,
+      )
+
+  altered_kept : TableKept (old.entries.items ++ altering ∷ []) altered
+  altered_kept =
+      let h = old.entries.items in
+      let here = kept_here old is a.table place s in
+      let more : numbered a.table (h ++ altering ∷ []) ≡ numbered a.table h ++ command.Alter a ∷ [] =
+      numbered_more a.table h (altering ∷ []) ∙ ap (λ (b : Bool). numbered a.table h ++ cond b (command.Alter a ∷ []) []) (itself_same a.table) in
+      let count = length-append (numbered a.table h) (command.Alter a ∷ []) in
+      record {
+        schema_is = schema_kept s.here.0.items h (altering ∷ []) s.here.1.schema here.schema_is;
+        last_is = drawn ∙ (sym count ∙ (ap length (sym more) ∙ ap (λ u. length (numbered u (h ++ altering ∷ []))) (sym s.name_is)));
+        own = here.own;
+      }
+
+  queue_now : (t : List ℕ) (b : Bool) → same_bytes a.table t ≡ b → mutations_of new.mutations t ≡ mutations_in t new.entries.items
+  queue_now t true same =
+      let h = old.entries.items in
+      let here : mutations_of new.mutations a.table ≡ mutations_in a.table new.entries.items =
+      adds.mine
+      ∙ (ap₂ (λ (ms : List Mutation) (n : ℕ). ms ++ record { number = n; change = a.change } ∷ []) (is.queue a.table) drawn
+      ∙ (sym (mutations_altered h session a) ∙ ap (mutations_in a.table) (sym entries))) in
+      subst (λ (u : List ℕ). mutations_of new.mutations u ≡ mutations_in u new.entries.items) (same_is a.table t same) here
+  queue_now t false apart =
+      let h = old.entries.items in
+      let other : t ≡ a.table → ⊥ = λ same. let both : false ≡ true = sym apart ∙ (ap (same_bytes a.table) same ∙ itself_same a.table) in cc in
+      adds.others t other ∙ (is.queue t ∙ (sym (mutations_still t h altering (ap (λ (b : Bool). cond b (command.Alter a ∷ []) []) apart)) ∙ ap (mutations_in t) (sym entries)))
+
+  pub alter_store : ((schema : Schema) → schema_of a.table old.entries.items ≡ Some schema → IsChangeOf schema a.change) → IsStore new
+  alter_store may =
+      let h = old.entries.items in
+      let name = λ (t : Named). t.0.items in
+      let all : AllByRecursion (TableKept (h ++ altering ∷ [])) (s.front ++ altered ∷ s.back) =
+      all_both (TableKept (h ++ altering ∷ [])) s.front (altered ∷ s.back) (others_kept s.front s.before (kept_front old is a.table place s)) (altered_kept, others_kept s.back s.behind (kept_back old is a.table place s)) in
+      record {
+        core = subst IsCore (sym alter_is) (alter_core (core_of old) session a is.core (ap is_some (schema_here old is a.table place s)) may);
+        names = ap (map name) altered_now
+            ∙ (map-append name s.front (altered ∷ s.back)
+            ∙ (sym (map-append name s.front (s.here ∷ s.back))
+            ∙ (ap (map name) (sym s.tables_are) ∙ (is.names ∙ (sym (append-nil (table_names h)) ∙ (sym (names_more h (altering ∷ [])) ∙ ap table_names (sym entries)))))));
+        each = subst (λ (ts : List Named). All (TableKept new.entries.items) ts) (sym altered_now)
+            (subst (λ (x : History). All (TableKept x) (s.front ++ altered ∷ s.back)) (sym entries) (All-from_recursion (TableKept (h ++ altering ∷ [])) (s.front ++ altered ∷ s.back) all));
+        queue = λ t. queue_now t (same_bytes a.table t) refl;
       }
 
 -- the columns by which a table is sorted are ones of the rows that come into it
@@ -395,9 +584,10 @@ key_fits h t schema i legal is into =
 
 module _ (old new : Store) (t : List ℕ) (place : ℕ) (one : Snapshot) (is : IsStore old) (s : StandsAt old.tables.entries t place)
     (tables : new.tables.entries ≡ old.tables.entries) (entries : new.entries.items ≡ old.entries.items) (snapshots : new.snapshots.items ≡ old.snapshots.items ++ one ∷ [])
-    (named : one.table ≡ t) (parts : one.parts ≡ s.here.1.parts) (len : one.length ≡ length old.entries.items) where
+    (named : one.table ≡ t) (parts : one.parts ≡ s.here.1.parts) (mutations : one.mutations ≡ mutations_in t old.entries.items) (len : one.length ≡ length old.entries.items)
+    (queue : (u : List ℕ) → mutations_of new.mutations u ≡ mutations_of old.mutations u) where
   one_is : one ≡ snapshot_of t (core_of old)
-  one_is = λ j. record { table = named j; parts = (parts ∙ sym (parts_here old is t place s)) j; length = len j }
+  one_is = λ j. record { table = named j; parts = (parts ∙ sym (parts_here old is t place s)) j; mutations = mutations j; length = len j }
 
   pub take_is : core_of new ≡ record { parts = parts_of_tables old.tables.entries; history = old.entries.items; snapshots = old.snapshots.items ++ snapshot_of t (core_of old) ∷ [] }
   take_is =
@@ -412,6 +602,7 @@ module _ (old new : Store) (t : List ℕ) (place : ℕ) (one : Snapshot) (is : I
     core = subst IsCore (sym take_is) (take_core (core_of old) t is.core take_there);
     names = ap (map (λ (x : Named). x.0.items)) tables ∙ (is.names ∙ ap table_names (sym entries));
     each = subst (λ (ts : List Named). All (TableKept new.entries.items) ts) (sym tables) (subst (λ (h : History). All (TableKept h) old.tables.entries) (sym entries) is.each);
+    queue = λ u. queue u ∙ (is.queue u ∙ ap (mutations_in u) (sym entries));
   }
 
 -- ---- a put
@@ -427,6 +618,16 @@ others_between t front back here apart own =
     (filter-append f here.1.parts (parts_of_tables back)
     ∙ ap (λ (xs : List CorePart). xs ++ core_parts_of t (parts_of_tables back)) (others_none t here.0.items here.1.parts apart (recursion_from_All (λ (p : CorePart). p.table ≡ here.0.items) here.1.parts own))))
 
+-- what was done with parts has a name
+made_name : (h : History) (schema : Schema) (ps : List CorePart) (t : Task) (rows : List Row) → 0 < length ps → AreMade h schema ps t rows → (name : PartName) × (name_made t (names_of ps) ≡ Some name)
+made_name h schema ps task.Merge rows some made = by ps some
+  where
+    by : (ps : List CorePart) → 0 < length ps → (name : PartName) × (name_made task.Merge (names_of ps) ≡ Some name)
+    by [] none = absurd (omega (arith, none))
+    by (p ∷ ps) some = (merged_name p.name (names_of ps), refl)
+made_name h schema ps (task.Rewrite upto) rows some made =
+    (rewritten made.0.name upto, ap (λ (qs : List CorePart). name_made (task.Rewrite upto) (names_of qs)) made.1)
+
 module _ (store : Store) (m : Put) (place : ℕ) (is : IsStore store) (s : StandsAt store.tables.entries m.sources.table place) where
   -- a merge is of neighbours of the table that stands there
   pub neighbours_are : HasNeighbours s.here.1.parts m.sources → HasNeighbours (beside (core_of store) m.sources) m.sources
@@ -436,32 +637,50 @@ module _ (store : Store) (m : Put) (place : ℕ) (is : IsStore store) (s : Stand
   put_unfound none =
       (ap is_some (schema_here store is m.sources.table place s), (λ has. none (subst (λ (ps : List CorePart). HasNeighbours ps m.sources) (parts_here store is m.sources.table place s) has)), refl)
 
-  -- a run that stands there has a name
-  run_named : (run : Run) → RunStands s.here.1.parts m.sources run → (name : PartName) × (merged_of (names_of (sources_among s.here.1.parts m.sources)) ≡ Some name)
-  run_named run at = by (sources_among s.here.1.parts m.sources) (sources_length s.here.1.parts m.sources at.there)
-    where
-      by : (ps : List CorePart) → length ps ≡ m.sources.count → (name : PartName) × (merged_of (names_of ps) ≡ Some name)
-      by [] none = absurd (omega (arith, none, at.there.some))
-      by (p ∷ ps) some = (merged_name p.name (names_of ps), refl)
+  sources_here : sources_among (beside (core_of store) m.sources) m.sources ≡ sources_among s.here.1.parts m.sources
+  sources_here = ap (λ (ps : List CorePart). sources_among ps m.sources) (parts_here store is m.sources.table place s)
 
-  pub put_unleveled : (run : Run) → RunStands s.here.1.parts m.sources run → ((name : PartName) → merged_of (names_of (sources_among s.here.1.parts m.sources)) ≡ Some name → 4294967295 < name.level)
+  -- whether a mutation keeps the put from the parts that were found is told of the table's mutations
+  pub join_here : (found : List CorePart) → found ≡ sources_among s.here.1.parts m.sources → MayJoin (mutations_of store.mutations m.sources.table) m.task (names_of found) → MayJoinHere (core_of store) m
+  join_here found are join =
+      subst (λ (ms : List Mutation). MayJoin ms m.task (names_put (core_of store) m)) (is.queue m.sources.table)
+      (subst (λ (ps : List CorePart). MayJoin (mutations_of store.mutations m.sources.table) m.task (names_of ps)) (are ∙ sym sources_here) join)
+
+  pub join_found : (found : List CorePart) → found ≡ sources_among s.here.1.parts m.sources → MayJoinHere (core_of store) m → MayJoin (mutations_of store.mutations m.sources.table) m.task (names_of found)
+  join_found found are join =
+      subst (λ (ps : List CorePart). MayJoin (mutations_of store.mutations m.sources.table) m.task (names_of ps)) (sources_here ∙ sym are)
+      (subst (λ (ms : List Mutation). MayJoin ms m.task (names_put (core_of store) m)) (sym (is.queue m.sources.table)) join)
+
+  pub put_parted : (run : Run) → RunStands s.here.1.parts m.sources run → (MayJoinHere (core_of store) m → ⊥) → PutGives (core_of store) m (outcome.Refused guard.Parted) (core_of store)
+  put_parted run at parted = (ap is_some (schema_here store is m.sources.table place s), record { neighbours = neighbours_are at.there; parted = parted }, refl)
+
+  pub put_unleveled : (run : Run) → RunStands s.here.1.parts m.sources run → MayPut (core_of store) m → MayJoinHere (core_of store) m
+      → ((name : PartName) → name_made m.task (names_of (sources_among s.here.1.parts m.sources)) ≡ Some name → FitsLevel m.task name → ⊥)
       → PutGives (core_of store) m (outcome.Refused guard.Levels) (core_of store)
-  put_unleveled run at past =
-      let named = run_named run at in (
+  put_unleveled run at may join past =
+      let has = neighbours_are at.there in
+      let sources = sources_among (beside (core_of store) m.sources) m.sources in
+      let many = sources_length (beside (core_of store) m.sources) m.sources has in
+      let one = has.some in
+      let some : 0 < length sources = omega (arith, many, one) in
+      let made = may s.here.1.schema (schema_here store is m.sources.table place s) has in
+      let named = made_name store.entries.items s.here.1.schema sources m.task m.rows some made in (
         ap is_some (schema_here store is m.sources.table place s),
         record {
-          neighbours = neighbours_are at.there;
+          neighbours = has;
+          unparted = join;
           name = named.0;
-          named = subst (λ (ps : List CorePart). merged_of (names_of (sources_among ps m.sources)) ≡ Some named.0) (sym (parts_here store is m.sources.table place s)) named.1;
-          past = past named.0 named.1;
+          named = named.1;
+          past = past named.0 (subst (λ (ps : List CorePart). name_made m.task (names_of ps) ≡ Some named.0) sources_here named.1);
         },
         refl,
       )
 
 module _ (old new : Store) (m : Put) (name : PartName) (place : ℕ) (run : Run) (is : IsStore old) (s : StandsAt old.tables.entries m.sources.table place) (at : RunStands s.here.1.parts m.sources run)
-    (named : merged_of (names_of (sources_among s.here.1.parts m.sources)) ≡ Some name) (room : name.level ≤ 4294967295)
+    (join : MayJoinHere (core_of old) m) (named : name_made m.task (names_of (sources_among s.here.1.parts m.sources)) ≡ Some name) (room : FitsLevel m.task name)
     (tables : new.tables.entries ≡ set_value_at old.tables.entries place (swapped_table s.here.1 run (part_of_put m name)))
-    (entries : new.entries.items ≡ old.entries.items) (snapshots : new.snapshots.items ≡ old.snapshots.items) where
+    (entries : new.entries.items ≡ old.entries.items) (snapshots : new.snapshots.items ≡ old.snapshots.items)
+    (mutations : (t : List ℕ) → mutations_of new.mutations t ≡ mutations_of old.mutations t) where
   abbrev merged : CorePart
   merged = part_of_put m name
 
@@ -503,11 +722,12 @@ module _ (old new : Store) (m : Put) (name : PartName) (place : ℕ) (run : Run)
       ap (λ ts. core_parts_of t (parts_of_tables ts)) swapped_now
       ∙ (others_between t s.front s.back swapped other own_swapped ∙ (sym (others_between t s.front s.back s.here other own_was) ∙ ap (λ ts. core_parts_of t (parts_of_tables ts)) (sym s.tables_are)))
 
-  pub put_done : PutsMerge (core_of old) m name (core_of new)
+  pub put_done : PutsPart (core_of old) m name (core_of new)
   put_done = record {
     there = ap is_some (schema_here old is m.sources.table place s);
     neighbours = neighbours_are old m place is s at.there;
-    named = subst (λ (ps : List CorePart). merged_of (names_of (sources_among ps m.sources)) ≡ Some name) (sym beside_was) named;
+    unparted = join;
+    named = subst (λ (ps : List CorePart). name_made m.task (names_of (sources_among ps m.sources)) ≡ Some name) (sym beside_was) named;
     room = room;
     parts = record {
       front = at.front;
@@ -535,6 +755,7 @@ module _ (old new : Store) (m : Put) (name : PartName) (place : ℕ) (run : Run)
             ∙ (sym (map-append name_of s.front (s.here ∷ s.back)) ∙ (ap (map name_of) (sym s.tables_are) ∙ (is.names ∙ ap table_names (sym entries)))));
         each = subst (λ (ts : List Named). All (TableKept new.entries.items) ts) (sym swapped_now)
             (subst (λ (x : History). All (TableKept x) (s.front ++ swapped ∷ s.back)) (sym entries) (All-from_recursion (TableKept old.entries.items) (s.front ++ swapped ∷ s.back) all));
+        queue = λ t. mutations t ∙ (is.queue t ∙ ap (mutations_in t) (sym entries));
       }
 
 -- ---- what was found

@@ -22,3 +22,17 @@ pub use Rattle.part_history.proofs.Numbered as PartHistoryNumbered
 pub use Rattle.part_history.proofs.Orders as PartHistoryOrders
 pub use Rattle.part_history.proofs.OwnRows as PartHistoryOwnRows
 pub use Rattle.part_history.proofs.Portions as PartHistoryPortions
+pub use Rattle.mutation_queue.proofs.PartSetClearing
+pub use Rattle.mutation_queue.proofs.PartSetDots
+pub use Rattle.mutation_queue.proofs.PartSetItems
+pub use Rattle.mutation_queue.proofs.PartSetMaps
+pub use Rattle.mutation_queue.proofs.PartSetNamePlaces
+pub use Rattle.mutation_queue.proofs.PartSetNameTexts
+pub use Rattle.mutation_queue.proofs.PartSetOrders
+pub use Rattle.mutation_queue.proofs.PartSetOrphans
+pub use Rattle.mutation_queue.proofs.PartNameMerging
+pub use Rattle.mutation_queue.proofs.PartNameTexts
+pub use Rattle.mutation_queue.proofs.PartSetPasses
+pub use Rattle.mutation_queue.proofs.PartSetShelving
+pub use Rattle.mutation_queue.proofs.PartSetSwaps
+pub use Rattle.mutation_queue.proofs.PartSetVisibles

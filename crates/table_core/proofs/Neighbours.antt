@@ -1,6 +1,6 @@
--- Where neighbours stand in the list of a table's parts, and what a merge makes of their names.
+-- Where neighbours stand in the list of a table's parts, between which of them a mutation comes, and what a put makes of their names.
 use Rattle.std.proofs.Common.{◌≡◌, ℕ, ◌+◌, ◌<◌, ◌≤◌, Bool, true, false, cond, List, [], ◌∷◌, ◌++◌, Option, Some, None, filter, length, get_or, set, take, drop, nat_eq, nat_lt, refl, sym, ap, ap₂, ◌∙◌, subst, append_assoc, length-append, length-drop, length-take-le, take-append-drop, arith, zero, suc, inl, inr, ◌⊎◌}
-use Rattle.std.specs.Prelude.{IfSome, IfNone}
+use Rattle.std.specs.Prelude.{◌↔◌, IfSome, IfNone, IsTrue}
 use Rattle.std.specs.List.{AllByRecursion, AllWithin, fold}
 use Rattle.std.specs.List.Sorted.{IsPartitionedBy}
 use Rattle.std.specs.Ordering.{is_gt, is_lt, nat_cmp, ordering_then}
@@ -9,10 +9,12 @@ use Rattle.std.proofs.lemmas.Bool.Decides.{nat_tests}
 use Rattle.std.proofs.lemmas.List.Sorted.{sorted_far}
 use Rattle.mt_base.specs.declared.partition.Partition.{Partition}
 use Rattle.mt_base.specs.declared.partition.Partition.TheVariants.{Whole, Number}
+use Rattle.mt_values.specs.declared.mutation.Mutation.{Mutation}
 use Rattle.mt_values.specs.Tables.{same_partition}
 use Rattle.part_history.proofs.MtModelSorting.{sorted_tail}
 use Rattle.part_history.specs.part_name.declared.part.PartName.{PartName}
-use Rattle.part_history.specs.part_name.Merged.{joined_name, merged_of, raised}
+use Rattle.part_history.specs.part_name.Pending.{MayMerge, NoneParted}
+use Rattle.part_history.specs.part_name.Merged.{joined_name, merged_of, raised, rewritten}
 use Rattle.part_history.specs.declared.part.CorePart.{CorePart}
 use Rattle.part_history.specs.Entered.{parts_after, parts_upto}
 use Rattle.part_history.specs.Merges.{names_of}
@@ -20,8 +22,9 @@ use Rattle.part_history.specs.Parts.{AreInBlockOrder, block_cmp, partition_cmp, 
 use Rattle.part_history.proofs.Ordered.{IsAfter, all_after, later_after, parts_parted}
 use Rattle.part_history.proofs.Orders.{block_weak}
 use Rattle.table_core.specs.declared.event.Sources.{Sources}
+use Rattle.table_core.specs.declared.event.Task.TheVariants as task
 use Rattle.table_core.specs.declared.store.Run.{Run}
-use Rattle.table_core.specs.Steps.{HasNeighbours, sources_among}
+use Rattle.table_core.specs.Steps.{HasNeighbours, name_made, sources_among}
 use Rattle.table_core.specs.Store.{LiesIn, RunStands, parts_below}
 
 -- ---- lists
@@ -298,3 +301,78 @@ merge_unnamed sources first rest r are is = by (nat_lt joined.level 4294967295) 
         let level : 4294967295 ≤ joined.level = grind (arith, nat_tests, low) in
         let up : joined.level + 1 ≡ name.level = ap (λ (n : PartName). n.level) same in
         omega (arith, level, up)
+
+-- what is said of one thing where it says another
+pub none_weaker : {X : Type 0} {P Q : Type 0} (r : Option X) → (P → Q) → IfNone r P → IfNone r Q
+none_weaker None f p = f p
+none_weaker (Some x) f p = tt
+
+-- ---- the name of what a rewrite makes
+
+pub rewrite_unnamed : (sources : List CorePart) (upto : ℕ) → (length sources ≡ 1 → ⊥) → None ≡ name_made (task.Rewrite upto) (names_of sources)
+rewrite_unnamed [] upto not = refl
+rewrite_unnamed (p ∷ []) upto not = absurd (not refl)
+rewrite_unnamed (p ∷ q ∷ ps) upto not = refl
+
+pub rewrite_named : (sources : List CorePart) (upto : ℕ) (first : CorePart) (name : PartName) → length sources ≡ 1 → name ≡ rewritten (get_or sources 0 first).name upto → Some name ≡ name_made (task.Rewrite upto) (names_of sources)
+rewrite_named [] upto first name one is = absurd (omega (arith, one))
+rewrite_named (p ∷ []) upto first name one is = ap Some is
+rewrite_named (p ∷ q ∷ ps) upto first name one is = absurd (omega (arith, one))
+
+-- every level fits where a rewrite leaves it as it is
+pub rewrite_fits : (r o : Option PartName) → r ≡ o → IfSome r (λ name. (o ≡ Some name) × Unit {0})
+rewrite_fits None o is = tt
+rewrite_fits (Some name) o is = (sym is, tt)
+
+pub rewrite_none : (r o : Option PartName) → r ≡ o → IfNone r ((name : PartName) → o ≡ Some name → Unit {0} → ⊥)
+rewrite_none None o is = λ name named fits. let both : None ≡ Some name = is ∙ named in cc
+rewrite_none (Some name) o is = tt
+
+-- ---- parts between which no mutation comes
+
+dropped_at : (ps : List CorePart) (i : ℕ) (d : CorePart) → i < length ps → drop i ps ≡ get_or ps i d ∷ drop (i + 1) ps
+dropped_at [] i d lt = absurd (omega (arith, lt))
+dropped_at (p ∷ ps) zero d lt = refl
+dropped_at (p ∷ ps) (suc i) d lt =
+    let next : suc (i + 1) ≡ suc i + 1 = omega arith in
+    dropped_at ps i d (omega (arith, lt)) ∙ ap (λ (n : ℕ). get_or ps i d ∷ drop n (p ∷ ps)) next
+
+dropped_none : (ps : List CorePart) (i : ℕ) → length ps ≤ i → drop i ps ≡ []
+dropped_none [] zero all = refl
+dropped_none [] (suc i) all = refl
+dropped_none (p ∷ ps) zero all = absurd (omega (arith, all))
+dropped_none (p ∷ ps) (suc i) all = dropped_none ps i (omega (arith, all))
+
+-- no part is parted exactly where none of the last of the first ones and those after it is
+abbrev pub AsRest : List Mutation → List CorePart → PartName → List CorePart → Type 0
+AsRest ms sources last rest = NoneParted ms (names_of sources) ↔ NoneParted ms (last ∷ names_of rest)
+
+pub none_parted_first : (ms : List Mutation) (sources : List CorePart) → length sources ≡ 0 → (IsTrue true ↔ NoneParted ms (names_of sources))
+none_parted_first ms [] none = ((λ yes. tt), (λ is. refl))
+none_parted_first ms (p ∷ ps) none = absurd (omega (arith, none))
+
+pub none_parted_begun : (ms : List Mutation) (sources rest : List CorePart) (first : CorePart) → sources ≡ first ∷ rest → AsRest ms sources first.name rest
+none_parted_begun ms sources rest first are = subst (λ (ps : List CorePart). AsRest ms ps first.name rest) (sym are) ((λ is. is), (λ is. is))
+
+-- the same of those from a part on
+rest_at : (ms : List Mutation) (sources rest : List CorePart) (last : PartName) (i : ℕ) (part : CorePart) → i < length rest → part ≡ get_or rest i part → AsRest ms sources last (drop i rest)
+    → AsRest ms sources last (part ∷ drop (i + 1) rest)
+rest_at ms sources rest last i part lt at both =
+    subst (AsRest ms sources last) (dropped_at rest i part lt ∙ ap (λ (p : CorePart). p ∷ drop (i + 1) rest) (sym at)) both
+
+pub none_parted_next : (ms : List Mutation) (sources rest : List CorePart) (last : PartName) (i : ℕ) (part : CorePart) → i < length rest → part ≡ get_or rest i part → AsRest ms sources last (drop i rest)
+    → MayMerge ms last part.name → AsRest ms sources part.name (drop (i + 1) rest)
+none_parted_next ms sources rest last i part lt at both may =
+    let now = rest_at ms sources rest last i part lt at both in
+    ((λ is. (now.0 is).1), (λ is. now.1 (may, is)))
+
+pub none_parted_not : (ms : List Mutation) (sources rest : List CorePart) (last : PartName) (i : ℕ) (part : CorePart) → i < length rest → part ≡ get_or rest i part → AsRest ms sources last (drop i rest)
+    → (MayMerge ms last part.name → ⊥) → (IsTrue false ↔ NoneParted ms (names_of sources))
+none_parted_not ms sources rest last i part lt at both not =
+    let now = rest_at ms sources rest last i part lt at both in
+    ((λ yes. cc), (λ is. absurd (not (now.0 is).0)))
+
+pub none_parted_end : (ms : List Mutation) (sources rest : List CorePart) (last : PartName) (i : ℕ) → length rest ≤ i → AsRest ms sources last (drop i rest) → (IsTrue true ↔ NoneParted ms (names_of sources))
+none_parted_end ms sources rest last i all both =
+    let now = subst (AsRest ms sources last) (dropped_none rest i all) both in
+    ((λ yes. now.1 tt), (λ is. refl))

@@ -49,6 +49,11 @@ accepts_or_not old new session (command.Insert i) (outcome.Accepted place) g =
     inl (record { given_is = ap outcome.Accepted g.place_is; history = g.history; snapshots = g.snapshots })
 accepts_or_not old new session (command.Insert i) (outcome.Refused guard.NoTable) g = inr (record { guard = guard.NoTable; given_is = refl; new_is = g.1 })
 accepts_or_not old new session (command.Insert i) (outcome.Refused guard.Numbers) g = inr (record { guard = guard.Numbers; given_is = refl; new_is = g.2 })
+accepts_or_not old new session (command.Alter a) (outcome.Accepted place) g =
+    inl (record { given_is = ap outcome.Accepted g.2; history = ap (λ (x : Core). x.history) g.3; snapshots = ap (λ (x : Core). x.snapshots) g.3 })
+accepts_or_not old new session (command.Alter a) (outcome.Refused guard.NoTable) g = inr (record { guard = guard.NoTable; given_is = refl; new_is = g.1 })
+accepts_or_not old new session (command.Alter a) (outcome.Refused guard.Numbers) g = inr (record { guard = guard.Numbers; given_is = refl; new_is = g.2 })
+accepts_or_not old new session (command.Alter a) given g = absurd g
 accepts_or_not old new session (command.Create c) given g = absurd g
 accepts_or_not old new session (command.Insert i) given g = absurd g
 
@@ -64,6 +69,7 @@ put_stays : (old new : Core) (m : Put) (given : Outcome) → PutGives old m give
 put_stays old new m (outcome.Put name) g = record { history = g.history; snapshots = g.snapshots }
 put_stays old new m (outcome.Refused guard.NoTable) g = same_stays old new g.1
 put_stays old new m (outcome.Refused guard.NotNeighbours) g = same_stays old new g.2
+put_stays old new m (outcome.Refused guard.Parted) g = same_stays old new g.2
 put_stays old new m (outcome.Refused guard.Levels) g = same_stays old new g.2
 put_stays old new m given g = absurd g
 

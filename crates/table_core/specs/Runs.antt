@@ -11,8 +11,7 @@ use Rattle.table_core.specs.declared.event.Outcome.{Outcome}
 use Rattle.table_core.specs.declared.event.Outcome.TheVariants as outcome
 use Rattle.table_core.specs.declared.snapshot.Snapshot.{Snapshot}
 use Rattle.table_core.specs.Core.{Core}
-use Rattle.part_history.specs.Parts.{rows_of_parts}
-use Rattle.table_core.specs.Steps.{AreLeftOf, GivesOutcome, MayCome, snapshot_of}
+use Rattle.table_core.specs.Steps.{AreLeftOf, GivesOutcome, MayCome, rows_of_snapshot, snapshot_of}
 
 -- each event gives the outcome at its place, from the state that those before it left (docs/definitions.md, "The core")
 abbrev pub Runs : Core → List Event → List Outcome → Core → Type 0
@@ -63,7 +62,7 @@ TellsSnapshots old events outcomes new =
 pub record IsReadOf (old : Core) (events : List Event) (outcomes : List Outcome) (number : ℕ) (rows : List Row) (place : ℕ) (behind : List Event) (new : Core) : Type 0 where
   pub snapshot : Snapshot
   pub comes : Comes old events outcomes number snapshot
-  pub rows_are : rows ≡ rows_of_parts snapshot.parts
+  pub rows_are : rows ≡ rows_of_snapshot snapshot
   pub place_is : place ≡ snapshot.length
   pub left : AreLeftOf snapshot.table place new.history rows
   pub stays : NoCrash behind → slice_get new.snapshots number ≡ Some snapshot

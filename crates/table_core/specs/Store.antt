@@ -19,7 +19,10 @@ use Rattle.table_core.specs.declared.store.Store.{Store}
 use Rattle.table_core.specs.declared.store.Table.{Table}
 use Rattle.table_core.specs.Core.{Core, IsCore}
 use Rattle.table_core.specs.Steps.{HasNeighbours, sources_among}
-use Rattle.part_history.specs.mt_model.Numbers.{last_number}
+use Rattle.part_history.specs.mt_model.Numbers.{last_number, mutations_in}
+use Rattle.mt_values.specs.declared.mutation.Mutation.{Mutation}
+use Rattle.mutation_queue.specs.declared.mutations.Mutations.{Mutations}
+use Rattle.mutation_queue.specs.Queue.{mutations_of}
 
 -- a table with its name
 abbrev pub Named : Type 0
@@ -36,6 +39,7 @@ core_of store = record { parts = parts_of_tables store.tables.entries; history =
 abbrev pub name_by : Command → List (List ℕ)
 name_by (command.Create c) = c.table ∷ []
 name_by (command.Insert i) = []
+name_by (command.Alter a) = []
 
 -- the names of the tables, in the order in which they were made
 abbrev pub table_names : History → List (List ℕ)
@@ -53,6 +57,7 @@ pub record IsStore (store : Store) : Type 0 where
   pub core : IsCore (core_of store)
   pub names : map (λ (t : Named). t.0.items) store.tables.entries ≡ table_names store.entries.items
   pub each : All (TableKept store.entries.items) store.tables.entries
+  pub queue : (table : List ℕ) → mutations_of store.mutations table ≡ mutations_in table store.entries.items
 
 -- a table has another name
 abbrev pub IsNotNamed : List ℕ → Named → Type 0
@@ -95,6 +100,10 @@ pub record LiesIn (run : Run) (parts : List CorePart) : Type 0 where
   pub some : 0 < run.count
   pub within : run.from + run.count ≤ length parts
 
+-- a table whose last number that was drawn is this
+abbrev pub drawn_table : Table → ℕ → Table
+drawn_table table number = record { schema = table.schema; parts = table.parts; last = number }
+
 -- a table with one part in place of a run of its parts
 abbrev pub swapped_table : Table → Run → CorePart → Table
 swapped_table table run part = record {
@@ -109,8 +118,14 @@ pub record AddsTable (c : Create) (old new : List Named) : Type 0 where
   pub key_is : key.items ≡ c.table
   pub tables_are : new ≡ old ++ (key, empty_table c.schema) ∷ []
 
--- the same tables, commands and snapshots
+-- one mutation of a table more, after its others
+pub record AddsMutation (table : List ℕ) (m : Mutation) (old new : Mutations) : Type 0 where
+  pub mine : mutations_of new table ≡ mutations_of old table ++ m ∷ []
+  pub others : (t : List ℕ) → (t ≡ table → ⊥) → mutations_of new t ≡ mutations_of old t
+
+-- the same tables, mutations, commands and snapshots
 pub record SameTables (old new : Store) : Type 0 where
   pub tables : new.tables.entries ≡ old.tables.entries
+  pub mutations : (table : List ℕ) → mutations_of new.mutations table ≡ mutations_of old.mutations table
   pub entries : new.entries.items ≡ old.entries.items
   pub snapshots : new.snapshots.items ≡ old.snapshots.items

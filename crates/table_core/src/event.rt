@@ -14,10 +14,20 @@ pub struct Sources {
     pub count: usize,
 }
 
-/// What a merge of neighbours left, done beside the state: its rows are to be put in their place.
+/// What was done with neighbours, beside the state.
+#[derive(Clone, Copy)]
+pub enum Task {
+    /// They were merged.
+    Merge,
+    /// Of the mutations for which the one of them waits the first were applied, up to this number.
+    Rewrite { upto: u32 },
+}
+
+/// What a merge of neighbours or a rewrite of a part left, done beside the state: its rows are to be put in their place.
 #[derive(Drop)]
 pub struct Put {
     pub sources: Sources,
+    pub task: Task,
     pub rows: Seq<Row>,
 }
 
@@ -62,6 +72,8 @@ pub enum Guard {
     NoSnapshot,
     /// The partition has no such parts, or the merge is of none.
     NotNeighbours,
+    /// A mutation was applied to one of the parts to be merged, and not to the next.
+    Parted,
     /// The part would have too great a level.
     Levels,
 }
@@ -71,7 +83,7 @@ pub enum Guard {
 pub enum Outcome {
     /// The command is in the history, which has now this length.
     Accepted { length: usize },
-    /// The part of this name is there in place of those that were merged.
+    /// The part of this name is there in place of its sources.
     Put { name: PartName },
     /// The snapshot has this number.
     Taken { number: usize },

@@ -1,7 +1,9 @@
 // The state of the core, as contracts see it.
 ghost use Rattle.std.specs.Prelude.{◌≡◌, IfOk, OnErr, option_copied};
 ghost use Rattle.part_history.specs.mt_model.History.{schema_of};
+ghost use Rattle.part_history.specs.mt_model.Numbers.{mutations_in};
 ghost use Rattle.part_history.specs.Parts.{core_parts_of};
+ghost use Rattle.part_history.specs.part_name.Pending.{Rise};
 ghost use Rattle.table_core.specs.Core.{IsCore, empty_core};
 ghost use Rattle.table_core.specs.Runs.{ReadsLeft};
 ghost use Rattle.table_core.specs.Steps.{GivesOutcome, MayCome};
@@ -10,7 +12,7 @@ use crate::steps::happen;
 use crate::store::Store;
 use crate::{CorePart, Event, Outcome};
 use mt_base::NoMemory;
-use mt_values::{Entry, Name, Schema};
+use mt_values::{Entry, Mutation, Name, Schema};
 use std::alloc::Global;
 use std::marker::Model;
 
@@ -21,10 +23,14 @@ pub struct CoreState {
 }
 
 impl Model for CoreState {
+    ghost use Rattle.std.specs.Coded.{codes};
+    ghost use Rattle.mt_values.specs.PolishCode.{condition_code};
     ghost use Rattle.table_core.specs.Core.{Core};
     ghost use Rattle.table_core.specs.Store.{IsStore, core_of};
 
     ghost Value = { Core };
+
+    ghost coded = { Prim.hlevel (codes, condition_code) };
 
     ghost view = { λ state. core_of state.store };
 
@@ -54,6 +60,14 @@ impl CoreState {
         ensures { result.now ≡ core_parts_of table.now self.now.parts }
     {
         self.store.parts(table)
+    }
+
+    /// The mutations of a table that were accepted, by rising numbers.
+    pub fn mutations(&self, table: &Name) -> &[Mutation]
+        ensures mutations { result.now ≡ mutations_in table.now self.now.history }
+        ensures rise { Rise result.now }
+    {
+        self.store.mutations.all(table)
     }
 
     /// The accepted commands, in order.

@@ -1,5 +1,5 @@
 // One event after another, over the store.
-ghost use Rattle.std.specs.Prelude.{◌≡◌, ◌<◌, ◌≤◌, ◌++◌, All, IfNone, IfOk, IfSome, OnErr, OnOk, Some, length};
+ghost use Rattle.std.specs.Prelude.{◌≡◌, ◌<◌, ◌≤◌, ◌↔◌, All, IfNone, IfOk, IfSome, IsTrue, OnErr, OnOk, Some, length};
 ghost use Rattle.std.specs.List.{fold};
 ghost use Rattle.mt_base.specs.Limits.{level_limit};
 ghost use Rattle.mt_values.specs.declared.schema.Schema.{Schema};
@@ -9,16 +9,24 @@ ghost use Rattle.part_history.specs.mt_model.History.{IsInsertInto, IsTableSchem
 ghost use Rattle.part_history.specs.part_name.declared.part.PartName.{PartName};
 ghost use Rattle.part_history.specs.part_name.Merged.{joined_name, merged_of};
 ghost use Rattle.part_history.specs.Merges.{names_of};
-ghost use Rattle.part_history.specs.Parts.{rows_of_parts};
+ghost use Rattle.part_history.specs.mt_model.Mutations.{IsChangeOf};
+ghost use Rattle.part_history.specs.mt_model.Numbers.{mutations_in};
+ghost use Rattle.part_history.specs.part_name.Pending.{NoneParted, Rise};
+ghost use Rattle.mutation_queue.specs.Queue.{mutations_of};
+ghost use Rattle.table_core.specs.declared.event.Task.TheVariants as task;
 ghost use Rattle.part_history.specs.Entered as adding;
-ghost use Rattle.table_core.specs.Steps.{AcceptGives, CrashGives, CrashMeets, CreateGives, GivesOutcome, InsertGives, MayAccept, MayCome, MayCrash, MayPut, PutGives, ReadGives, TakeGives};
+ghost use Rattle.table_core.specs.Steps as making;
+ghost use Rattle.table_core.specs.Steps.{AcceptGives, AlterGives, CrashGives, CrashMeets, CreateGives, FitsLevel, GivesOutcome, InsertGives, MayAccept, MayCome, MayCrash, MayJoin, MayPut, PutGives, ReadGives, TakeGives, rows_of_snapshot};
+ghost use Rattle.part_history.specs.Parts.{rows_seen};
 ghost use Rattle.table_core.specs.Store.{IsStore, core_of};
 
 use crate::store::{Store, parts_of_run, run_of};
-use crate::{CorePart, Crash, Event, Guard, Outcome, Put, Snapshot, Sources};
+use crate::{CorePart, Crash, Event, Guard, Outcome, Put, Snapshot, Sources, Task};
 use mt_base::{NoMemory, ROOT_TABLE_LIMIT, Seq, Twin};
-use mt_values::{Block, Command, Create, Entry, Insert, Name, Row, Schema};
-use part_history::part_name::{PartName, join, raise};
+use mt_values::{Alter, Block, Command, Create, Entry, Insert, Mutation, Name, Row, Schema};
+use mutation_queue::{Mutations, pending_in};
+use on_fly::apply;
+use part_history::part_name::{PartName, join, raise, rewrite};
 use std::alloc::Global;
 
 /// What happens at an event.
@@ -34,7 +42,7 @@ pub fn happen(alloc: Global, store: &mut Store, event: Event) -> Result<Outcome,
 {
     match event {
         Event::Accept(entry) => decide(alloc, store, entry),
-        Event::Put(put) => Ok(put_merge(alloc, store, put)),
+        Event::Put(put) => Ok(put_part(alloc, store, put)),
         Event::TakeSnapshot { table } => take_snapshot(alloc, store, table),
         Event::ReadSnapshot { number } => read_snapshot(alloc, store, number),
         Event::Crash(crash) => restart(alloc, store, crash),
@@ -54,6 +62,7 @@ fn decide(alloc: Global, store: &mut Store, entry: Entry) -> Result<Outcome, NoM
     match command {
         Command::Create(create) => make_table(alloc, store, session, create),
         Command::Insert(insert) => add_rows(alloc, store, session, insert),
+        Command::Alter(alter) => add_mutation(alloc, store, session, alter),
     }
 }
 
@@ -85,7 +94,7 @@ fn meet_crash(alloc: Global, store: &mut Store, crash: Crash) -> Result<(), NoMe
             Ok(())
         }
         Crash::WithinPut { put, done: true } => {
-            put_merge(alloc, store, put);
+            put_part(alloc, store, put);
             Ok(())
         }
         _ => Ok(()),
@@ -145,6 +154,32 @@ fn add_rows(
     Ok(Outcome::Accepted { length })
 }
 
+/// Adds a mutation, which changes no part, unless there is no such table or it has no number left.
+fn add_mutation(
+    alloc: Global,
+    store: &mut Store,
+    session: u64,
+    alter: Alter,
+) -> Result<Outcome, NoMemory>
+    requires store { IsStore store.old }
+    requires change { (schema : Schema) → schema_of alter.table store.old.entries.items
+        ≡ Some schema → IsChangeOf schema alter.change }
+    ensures gives { IfOk result (λ given. AlterGives (core_of store.old) session alter given
+        (core_of store.new)) }
+    ensures err { OnErr result (core_of store.new ≡ core_of store.old) }
+    ensures store { IsStore store.new }
+{
+    let Some(place) = store.find(&alter.table) else {
+        return Ok(Outcome::Refused(Guard::NoTable));
+    };
+    let Some(number) = store.tables[place].last.checked_add(1) else {
+        return Ok(Outcome::Refused(Guard::Numbers));
+    };
+    let length = store.entries.len() + 1;
+    store.enter_mutation(alloc, place, session, alter, number)?;
+    Ok(Outcome::Accepted { length })
+}
+
 /// The part that an INSERT makes: of its own number alone, with its rows in the table's order.
 fn part_of_insert(
     alloc: Global,
@@ -181,15 +216,19 @@ fn rows_at(alloc: Global, block: &Block, places: &[u32]) -> Result<Seq<Row>, NoM
     Ok(rows)
 }
 
-/// Puts what a merge left in place of its sources, unless there is no such table, there are no such neighbours, or the part
-/// would have too great a level. Takes no memory.
-fn put_merge(alloc: Global, store: &mut Store, put: Put) -> Outcome
+/// Puts what was done with neighbours in their place, unless there is no such table, there are no such neighbours, a mutation
+/// parts two that were merged, or the part would have too great a level. Takes no memory.
+fn put_part(alloc: Global, store: &mut Store, put: Put) -> Outcome
     requires store { IsStore store.old }
     requires may { MayPut (core_of store.old) put }
     ensures gives { PutGives (core_of store.old) put result (core_of store.new) }
     ensures store { IsStore store.new }
 {
-    let Put { sources, rows } = put;
+    let Put {
+        sources,
+        task,
+        rows,
+    } = put;
     let Some(place) = store.find(&sources.table) else {
         return Outcome::Refused(Guard::NoTable);
     };
@@ -197,13 +236,70 @@ fn put_merge(alloc: Global, store: &mut Store, put: Put) -> Outcome
     let Some(run) = run_of(parts, &sources) else {
         return Outcome::Refused(Guard::NotNeighbours);
     };
-    let Some(name) = merged_name(parts_of_run(parts, run)) else {
+    let found = parts_of_run(parts, run);
+    if !may_join(&store.mutations, &sources.table, task, found) {
+        return Outcome::Refused(Guard::Parted);
+    }
+    let Some(name) = name_made(task, found) else {
         return Outcome::Refused(Guard::Levels);
     };
     let Sources { table, .. } = sources;
     let part = CorePart { table, name, rows };
     store.swap_run(alloc, place, run, part);
     Outcome::Put { name }
+}
+
+/// Whether no mutation keeps these from what was done with them: of a merge none parts two that follow each other.
+fn may_join(queue: &Mutations, table: &Name, task: Task, sources: &[CorePart]) -> bool
+    ensures { IsTrue result
+        ↔ MayJoin (mutations_of queue.now table.now) task (names_of sources.now) }
+{
+    match task {
+        Task::Merge => none_parted(queue, table, sources),
+        Task::Rewrite { .. } => true,
+    }
+}
+
+/// Whether no mutation of the table parts two that follow each other.
+fn none_parted(queue: &Mutations, table: &Name, sources: &[CorePart]) -> bool
+    ensures { IsTrue result
+        ↔ NoneParted (mutations_of queue.now table.now) (names_of sources.now) }
+{
+    let Some((first, rest)) = sources.split_first() else {
+        return true;
+    };
+    let mut last = first.name;
+    for part in rest {
+        if !queue.may_merge(table, &last, &part.name) {
+            return false;
+        }
+        last = part.name;
+    }
+    true
+}
+
+/// The name of the part that is put in place of these; none where they are none, a rewrite is of more than one, or the level
+/// would be too great.
+fn name_made(task: Task, sources: &[CorePart]) -> Option<PartName>
+    ensures named { IfSome result (λ name.
+        (making.name_made task (names_of sources.now) ≡ Some name) × FitsLevel task name) }
+    ensures none { IfNone result ((name : PartName)
+        → making.name_made task (names_of sources.now) ≡ Some name → FitsLevel task name → ⊥) }
+{
+    match task {
+        Task::Merge => merged_name(sources),
+        Task::Rewrite { upto } => rewritten_name(sources, upto),
+    }
+}
+
+/// The name of the one part of these, to which mutations up to this one were applied.
+fn rewritten_name(sources: &[CorePart], upto: u32) -> Option<PartName>
+    ensures { result ≡ making.name_made (task.Rewrite upto) (names_of sources.now) }
+{
+    if sources.len() != 1 {
+        return None;
+    }
+    Some(rewrite(&sources[0].name, upto))
 }
 
 /// The name of the part that a merge of these makes; none where they are none, or its level would be too great.
@@ -243,47 +339,67 @@ fn take_snapshot(alloc: Global, store: &mut Store, table: Name) -> Result<Outcom
         return Ok(Outcome::Refused(Guard::NoTable));
     };
     let parts = store.tables[place].parts.twin(alloc)?;
+    let mutations = all_mutations(alloc, store, &table)?;
     let length = store.entries.len();
     let number = store.snapshots.len();
     let snapshot = Snapshot {
         table,
         parts,
+        mutations,
         length,
     };
     store.snapshots.push(snapshot)?;
     Ok(Outcome::Taken { number })
 }
 
+/// Copies of the mutations of a table.
+fn all_mutations(alloc: Global, store: &Store, table: &Name) -> Result<Seq<Mutation>, NoMemory>
+    requires { IsStore store.now }
+    ensures { IfOk result
+        (λ found. found ≡ mutations_in table.now store.now.entries.items) }
+{
+    let mutations = store.mutations.all(table);
+    let mut found = Seq::new(alloc);
+    for mutation in mutations {
+        found.push(mutation.twin(alloc)?)?;
+    }
+    Ok(found)
+}
+
 /// The rows of a snapshot, unless there is no such snapshot.
 fn read_snapshot(alloc: Global, store: &Store, number: usize) -> Result<Outcome, NoMemory>
+    requires { IsStore store.now }
     ensures { IfOk result (λ given. ReadGives (core_of store.now) number given
         (core_of store.now)) }
 {
     let Some(snapshot) = store.snapshots.get(number) else {
         return Ok(Outcome::Refused(Guard::NoSnapshot));
     };
-    let rows = all_rows(alloc, snapshot.parts.as_slice())?;
+    let rows = all_rows(alloc, snapshot)?;
     let length = snapshot.length;
     Ok(Outcome::Rows { rows, length })
 }
 
-/// The rows of parts, one part after another.
-fn all_rows(alloc: Global, parts: &[CorePart]) -> Result<Seq<Row>, NoMemory>
-    ensures { IfOk result (λ rows. rows ≡ rows_of_parts parts.now) }
+/// The rows of the parts of a snapshot, each part's after the mutations for which it waits, one part after another.
+fn all_rows(alloc: Global, snapshot: &Snapshot) -> Result<Seq<Row>, NoMemory>
+    requires { Rise snapshot.now.mutations }
+    ensures { IfOk result (λ rows. rows ≡ rows_of_snapshot snapshot.now) }
 {
-    let mut rows = Seq::new(alloc);
+    let parts = snapshot.parts.as_slice();
+    let mut rows = Vec::new(alloc);
     for part in parts {
-        push_rows(alloc, &mut rows, part.rows.as_slice())?;
+        let mut own = part_rows(alloc, snapshot.mutations.as_slice(), part)?;
+        rows.append(&mut own)?;
     }
-    Ok(rows)
+    Ok(Seq::of(rows))
 }
 
-/// Adds copies of rows after others.
-fn push_rows(alloc: Global, rows: &mut Seq<Row>, more: &[Row]) -> Result<(), NoMemory>
-    ensures { OnOk result (rows.new ≡ rows.old ++ more.now) }
+/// The rows of a part after those of the mutations for which it waits.
+fn part_rows(alloc: Global, mutations: &[Mutation], part: &CorePart) -> Result<Vec<Row>, NoMemory>
+    requires { Rise mutations.now }
+    ensures { IfOk result (λ rows. rows.items ≡ rows_seen mutations.now part.now) }
 {
-    for row in more {
-        rows.push(row.twin(alloc)?)?;
-    }
-    Ok(())
+    let mut rows = part.rows.twin(alloc)?.into_vec();
+    apply(alloc, pending_in(mutations, &part.name), &mut rows)?;
+    Ok(rows)
 }

@@ -1,19 +1,21 @@
 // What the state keeps: the tables by their names, the accepted commands and the snapshots.
-ghost use Rattle.std.specs.Prelude.{◌≡◌, ◌+◌, ◌<◌, ◌≤◌, ◌++◌, ◌∷◌, ◌↔◌, [], All, IfNone, IfSome, IsTrue, OnErr, OnOk, Some, drop, length, option_copied, slice_get, take};
+ghost use Rattle.std.specs.Prelude.{◌≡◌, ◌+◌, ◌<◌, ◌≤◌, ◌++◌, ◌∷◌, ◌↔◌, ℕ, List, [], All, IfNone, IfSome, IsTrue, OnErr, OnOk, Some, drop, length, option_copied, slice_get, take};
 ghost use Rattle.std.specs.Ordering.{is_gt};
 ghost use Rattle.indexmap.specs.IndexMap.{set_value_at};
 ghost use Rattle.mt_values.specs.declared.command.Command.TheVariants as command;
 ghost use Rattle.part_history.specs.mt_model.History.{entered, schema_of};
+ghost use Rattle.mutation_queue.specs.Queue.{mutations_of};
 ghost use Rattle.table_core.specs.Core.{empty_core};
 ghost use Rattle.part_history.specs.Entered.{parts_after, parts_upto};
 ghost use Rattle.part_history.specs.Parts.{AreInBlockOrder, core_parts_of, partition_cmp, parts_in};
 ghost use Rattle.table_core.specs.Steps.{HasNeighbours};
-ghost use Rattle.table_core.specs.Store.{AddsTable, IsNotNamed, IsStore, LiesIn, Named, RunStands, SameTables, StandsAt, core_of, grown_table, parts_below, parts_of_tables, swapped_table};
+ghost use Rattle.table_core.specs.Store.{AddsMutation, AddsTable, IsNotNamed, IsStore, LiesIn, Named, RunStands, SameTables, StandsAt, core_of, drawn_table, grown_table, parts_below, parts_of_tables, swapped_table};
 
 use crate::{CorePart, Snapshot, Sources};
 use indexmap::IndexMap;
 use mt_base::{NoMemory, Partition, Seq, Twin};
-use mt_values::{Command, Create, Entry, Insert, Name, Schema};
+use mt_values::{Alter, Command, Create, Entry, Insert, Mutation, Name, Schema};
+use mutation_queue::Mutations;
 use std::alloc::Global;
 use std::mem;
 
@@ -32,10 +34,12 @@ pub struct Run {
     pub count: usize,
 }
 
-/// The tables by the bytes of their names, in the order in which they were made, the accepted commands and the snapshots.
+/// The tables by the bytes of their names, in the order in which they were made, their mutations, the accepted commands and
+/// the snapshots.
 #[derive(Drop)]
 pub struct Store {
     pub tables: IndexMap<Vec<u8>, Table>,
+    pub mutations: Mutations,
     pub entries: Vec<Entry>,
     pub snapshots: Vec<Snapshot>,
 }
@@ -48,6 +52,7 @@ impl Store {
     {
         Store {
             tables: IndexMap::new(alloc),
+            mutations: Mutations::new(alloc),
             entries: Vec::new(alloc),
             snapshots: Vec::new(alloc),
         }
@@ -95,6 +100,8 @@ impl Store {
             (AddsTable create self.old.tables.entries self.new.tables.entries) }
         ensures entries { OnOk result (self.new.entries.items ≡ entered self.old.entries.items
             session (command.Create create ∷ [])) }
+        ensures mutations { (t : List ℕ)
+            → mutations_of self.new.mutations t ≡ mutations_of self.old.mutations t }
         ensures snapshots { OnOk result (self.new.snapshots.items ≡ self.old.snapshots.items) }
         ensures err { OnErr result (SameTables self.old self.new) }
     {
@@ -124,12 +131,50 @@ impl Store {
             (grown_table t.1 part number)) }
         ensures entries { OnOk result (self.new.entries.items ≡ entered self.old.entries.items
             session (command.Insert insert ∷ [])) }
+        ensures mutations { (t : List ℕ)
+            → mutations_of self.new.mutations t ≡ mutations_of self.old.mutations t }
         ensures snapshots { OnOk result (self.new.snapshots.items ≡ self.old.snapshots.items) }
         ensures err { OnErr result (SameTables self.old self.new) }
     {
         self.entries.reserve(1)?;
         add_part(&mut self.tables[place], part, number)?;
         let command = Command::Insert(insert);
+        self.entries.push_reserved(Entry { session, command });
+        Ok(())
+    }
+
+    /// Enters a mutation after the last command, with the number that the table at this place draws for it.
+    ///
+    /// `NoMemory` where an allocation failed; the store stays as it was.
+    pub fn enter_mutation(
+        &mut self,
+        alloc: Global,
+        place: usize,
+        session: u64,
+        alter: Alter,
+        number: u32,
+    ) -> Result<(), NoMemory>
+        requires within { place < length self.old.tables.entries }
+        requires above { All (λ m. m.number < number)
+            (mutations_of self.old.mutations alter.table) }
+        ensures tables { (t : Named) → slice_get self.old.tables.entries place ≡ Some t
+            → OnOk result (self.new.tables.entries ≡ set_value_at self.old.tables.entries place
+            (drawn_table t.1 number)) }
+        ensures mutations { OnOk result (AddsMutation alter.table (record {
+          number = number;
+          change = alter.change;
+        }) self.old.mutations self.new.mutations) }
+        ensures entries { OnOk result (self.new.entries.items ≡ entered self.old.entries.items
+            session (command.Alter alter ∷ [])) }
+        ensures snapshots { OnOk result (self.new.snapshots.items ≡ self.old.snapshots.items) }
+        ensures err { OnErr result (SameTables self.old self.new) }
+    {
+        self.entries.reserve(1)?;
+        let change = alter.change.twin(alloc)?;
+        self.mutations
+            .accept(alloc, &alter.table, Mutation { number, change })?;
+        self.tables[place].last = number;
+        let command = Command::Alter(alter);
         self.entries.push_reserved(Entry { session, command });
         Ok(())
     }
@@ -142,6 +187,8 @@ impl Store {
         ensures tables { (t : Named) → slice_get self.old.tables.entries place ≡ Some t
             → self.new.tables.entries ≡ set_value_at self.old.tables.entries place
             (swapped_table t.1 run part) }
+        ensures mutations { (t : List ℕ)
+            → mutations_of self.new.mutations t ≡ mutations_of self.old.mutations t }
         ensures entries { self.new.entries.items ≡ self.old.entries.items }
         ensures snapshots { self.new.snapshots.items ≡ self.old.snapshots.items }
     {

@@ -7,7 +7,7 @@ use Rattle.part_history.specs.Entered.{part_of_insert}
 use Rattle.part_history.specs.Parts.{AreInBlockOrder}
 use Rattle.table_core.specs.Steps.{AcceptsInsert}
 use Rattle.table_core.specs.Store.{Named, core_of, grown_table}
-use Rattle.table_core.proofs.Keeping.{at_least, insert_accepted, insert_store, key_fits, last_here, no_table, order_here, place_here, read_here, schema_here}
+use Rattle.table_core.proofs.Keeping.{at_least, insert_accepted, insert_store, key_fits, last_here, no_table, order_here, place_here, read_here, same_store, schema_here}
 use Rattle.table_core.proofs.Stored.{one_value}
 use Rattle.table_core.proofs.steps.add_rows.Goals as goal
 
@@ -58,7 +58,7 @@ returns-clause-gives c =
     let entries = store.entries.ok.0 in
     let place : length store.entries.items + 1 ≡ c.len-length.result + 1 = omega (arith, c.len-length.ensures, entries) in
     subst (λ n. AcceptsInsert (core_of store) c.args.session insert n (core_of c.enter_part.new.self)) place
-    (insert_accepted store c.enter_part.new.self c.args.session insert c.in-Some.place number c.requires.store here drawn fits tables c.in_ok-enter_part.ensures.entries c.in_ok-enter_part.ensures.snapshots)
+    (insert_accepted store c.enter_part.new.self c.args.session insert c.in-Some.place number c.requires.store here drawn fits tables c.in_ok-enter_part.ensures.entries c.in_ok-enter_part.ensures.snapshots c.in_ok-enter_part.ensures.mutations)
 
 pub returns-clause-store : goal.returns-clause-store
 returns-clause-store c =
@@ -76,4 +76,8 @@ returns-clause-store c =
     let tables = c.in_ok-enter_part.ensures.tables here.here (place_here store c.requires.store insert.table c.in-Some.place here)
     ∙ ap (λ p. set_value_at store.tables.entries c.in-Some.place (grown_table here.here.1 p number)) part in
     let into = c.requires.rows here.here.1.schema (schema_here store c.requires.store insert.table c.in-Some.place here) in
-    insert_store store c.enter_part.new.self c.args.session insert c.in-Some.place number c.requires.store here drawn fits tables c.in_ok-enter_part.ensures.entries c.in_ok-enter_part.ensures.snapshots into
+    insert_store store c.enter_part.new.self c.args.session insert c.in-Some.place number c.requires.store here drawn fits tables c.in_ok-enter_part.ensures.entries c.in_ok-enter_part.ensures.snapshots c.in_ok-enter_part.ensures.mutations into
+
+-- all is as it was
+pub returns-in_err-enter_part-clause-store : goal.returns-in_err-enter_part-clause-store
+returns-in_err-enter_part-clause-store c = same_store c.args.store.now c.enter_part.new.self c.requires.store c.in_err-enter_part.ensures.err

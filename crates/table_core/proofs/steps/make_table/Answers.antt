@@ -2,7 +2,7 @@ use Rattle.std.proofs.Common.{◌≡◌, ◌+◌, ◌<◌, ◌≤◌, is_some, l
 use Rattle.part_history.specs.mt_model.History.{creates}
 use Rattle.table_core.specs.Store.{IsNotNamed, StandsAt}
 use Rattle.std.proofs.Common.{All}
-use Rattle.table_core.proofs.Keeping.{create_is, create_store, found_none, found_some, no_table, schema_here, tables_made}
+use Rattle.table_core.proofs.Keeping.{create_is, create_store, found_none, found_some, no_table, same_store, schema_here, tables_made}
 use Rattle.table_core.proofs.steps.make_table.Goals as goal
 
 pub returns-then-is_some-clause-gives : goal.returns-then-is_some-clause-gives
@@ -34,7 +34,7 @@ returns-clause-gives c =
       no_table store c.requires.store create.table none,
       few,
       place,
-      create_is store c.enter_table.new.self c.args.session create c.requires.store done.tables done.entries done.snapshots,
+      create_is store c.enter_table.new.self c.args.session create c.requires.store done.tables done.entries done.snapshots done.mutations,
     )
 
 pub returns-clause-store : goal.returns-clause-store
@@ -45,4 +45,8 @@ returns-clause-store c =
     let made = tables_made store c.requires.store in
     let few : creates store.entries.items < 65536 = omega (arith, made, c.len.ensures.len, c.if-len-ge-ROOT_TABLE_LIMIT.false) in
     let done = c.in_ok-enter_table.ensures in
-    create_store store c.enter_table.new.self c.args.session create c.requires.store done.tables done.entries done.snapshots c.requires.schema (no_table store c.requires.store create.table none) few
+    create_store store c.enter_table.new.self c.args.session create c.requires.store done.tables done.entries done.snapshots done.mutations c.requires.schema (no_table store c.requires.store create.table none) few
+
+-- all is as it was
+pub returns-in_err-enter_table-clause-store : goal.returns-in_err-enter_table-clause-store
+returns-in_err-enter_table-clause-store c = same_store c.args.store.now c.enter_table.new.self c.requires.store c.in_err-enter_table.ensures.err

@@ -11,6 +11,7 @@ returns-in_err-add_part-clause-err c =
     let tables = c.args.self.now.tables.entries in
     on_err c.from_residual-in_err-add_part.result _ (record {
       tables = ap (set_value_at tables c.args.place) c.in_err-add_part.ensures.err ∙ set_same tables c.args.place _ c.index_mut.ensures.value;
+      mutations = λ t. refl;
       entries = c.in_ok-reserve.ensures.items;
       snapshots = refl {A = List Snapshot};
     })
