@@ -31,7 +31,7 @@ use Rattle.mt_values.specs.contracts.schema.SchemaPartialEq.TheImpl as schemas
 pub texts_same : (a b : List ℕ) → Decides (pointwise nat_eq a b) (a ≡ b)
 texts_same a b = pointwise_decides Decides-eqb a b
 
-value_same : (x y : Value) → Decides (values.eq-value.it x y) (x ≡ y)
+pub value_same : (x y : Value) → Decides (values.eq-value.it x y) (x ≡ y)
 value_same (UInt8 m) (UInt8 n) = Decides-like (nat_eq m n) (ap UInt8) (λ e. cc) (Decides-eqb m n)
 value_same (UInt16 m) (UInt16 n) = Decides-like (nat_eq m n) (ap UInt16) (λ e. cc) (Decides-eqb m n)
 value_same (UInt32 m) (UInt32 n) = Decides-like (nat_eq m n) (ap UInt32) (λ e. cc) (Decides-eqb m n)

@@ -1,4 +1,5 @@
 pub mod Aggregating
+pub mod Alike
 pub mod AllReplies
 pub mod Allowing
 pub mod Answering

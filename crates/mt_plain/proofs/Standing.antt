@@ -5,6 +5,7 @@ use Rattle.std.proofs.lemmas.List.{map-append}
 use Rattle.std.proofs.lemmas.List.Elements.{All-from_recursion, All-nil, All-push, recursion_from_All}
 use Rattle.std.proofs.lemmas.List.Sums.{sum_by-cons}
 use Rattle.mt_base.specs.declared.partition.Partition.{Partition}
+use Rattle.mt_values.specs.declared.command.Alter.{Alter}
 use Rattle.mt_values.specs.declared.command.Command.{Command}
 use Rattle.mt_values.specs.declared.command.Command.TheVariants as command
 use Rattle.mt_values.specs.declared.command.Entry.{Entry}
@@ -15,15 +16,15 @@ use Rattle.mt_values.specs.Tables.{sorting_cmp}
 use Rattle.part_history.specs.mt_model.Explain.{Portion, PortionStands, PortionsStand, has_number, reach_of_portion}
 use Rattle.part_history.specs.mt_model.History.{History, first_of, schema_of}
 use Rattle.part_history.specs.mt_model.Live.{sorted}
-use Rattle.part_history.specs.mt_model.Numbers.{IsNumberOfInsert, Reach, draws, numbered}
+use Rattle.part_history.specs.mt_model.Numbers.{IsNumberOfInsert, IsNumberOfMutation, Reach, draws, numbered}
 use Rattle.part_history.specs.mt_model.Reaches.{ReachStands}
 use Rattle.part_history.proofs.MtModelHistories.{numbered_more}
 use Rattle.part_history.proofs.MtModelTables.{itself_same, same_is}
 use Rattle.part_history.specs.declared.part.CorePart.{CorePart}
 use Rattle.part_history.specs.Entered.{part_of_insert}
 use Rattle.part_history.specs.Parts.{PartStands, TableStands, has_block, reach_of_part}
-use Rattle.part_history.proofs.Growing.{table_grown, table_kept}
-use Rattle.mt_plain.specs.Portions.{portion_of, portions_after, portions_from, unmerged}
+use Rattle.part_history.proofs.Growing.{table_altered, table_grown, table_kept}
+use Rattle.mt_plain.specs.Portions.{last_after, portion_of, portions_after, portions_from, unmerged}
 
 module _ (table : List ℕ) (schema : Schema) where
   -- a portion as a part of the table
@@ -49,6 +50,9 @@ module _ (table : List ℕ) (schema : Schema) where
   number_made : (partition : Partition) (n : ℕ) (h : History) → IsNumberOfInsert table partition n h → IsNumberOfInsert table partition n (made h)
   number_made partition n h is = record { from_one = is.from_one; insert = is.insert; there = is.there; partition_is = is.partition_is }
 
+  mutation_made : (n : ℕ) (h : History) → IsNumberOfMutation table n h → IsNumberOfMutation table n (made h)
+  mutation_made n h is = record { from_one = is.from_one; alter = is.alter; there = is.there }
+
   one_schema : (a : Schema) → Some a ≡ Some schema → a ≡ schema
   one_schema a same = cc
 
@@ -68,6 +72,8 @@ module _ (table : List ℕ) (schema : Schema) where
         order = s.stands.order;
         least = number_is p.partition p.least h s.stands.least;
         greatest = number_is p.partition p.greatest h s.stands.greatest;
+        drawn = s.stands.drawn;
+        whole = λ n is. s.stands.whole n (mutation_made n h is);
         rising = s.stands.rising;
         partly = s.stands.partly;
       } in
@@ -92,13 +98,13 @@ module _ (table : List ℕ) (schema : Schema) where
 
   -- ---- one command more
 
-  -- the portions of a history, each with its number
-  record Stand (h : History) (ps : List Portion) : Type 0 where
-    count : length ps ≡ length (numbered table h)
+  -- the portions of a history, and the last number that it drew
+  record Stand (h : History) (last : ℕ) (ps : List Portion) : Type 0 where
+    count : last ≡ length (numbered table h)
     own : All Unmutated ps
     stands : TableStands table (map as_part ps) (made h)
 
-  none_yet : Stand [] []
+  none_yet : Stand [] 0 []
   none_yet = record {
     count = refl;
     own = All-nil Unmutated;
@@ -113,8 +119,8 @@ module _ (table : List ℕ) (schema : Schema) where
       no_number partition n there = cc
 
   -- what draws no number of the table adds nothing
-  stand_kept : (h : History) (e : Entry) (ps : List Portion) → numbered table (e ∷ []) ≡ [] → Stand h ps → Stand (h ++ e ∷ []) ps
-  stand_kept h e ps none s = record {
+  stand_kept : (h : History) (e : Entry) (last : ℕ) (ps : List Portion) → numbered table (e ∷ []) ≡ [] → Stand h last ps → Stand (h ++ e ∷ []) last ps
+  stand_kept h e last ps none s = record {
     count = s.count ∙ ap length (sym (numbered_more table h (e ∷ []) ∙ ap (λ cs. numbered table h ++ cs) none ∙ append-nil (numbered table h)));
     own = s.own;
     stands = table_kept table (map as_part ps) (made h) (e ∷ []) none s.stands;
@@ -132,40 +138,64 @@ module _ (table : List ℕ) (schema : Schema) where
   }
 
   -- an INSERT into the table is one portion more
-  stand_more : (h : History) (e : Entry) (i : Insert) (ps : List Portion) → e.command ≡ command.Insert i → i.table ≡ table → Stand h ps → Stand (h ++ e ∷ []) (ps ++ portion_of schema (length ps + 1) i ∷ [])
-  stand_more h e i ps is named s =
+  stand_more : (h : History) (e : Entry) (i : Insert) (last : ℕ) (ps : List Portion) → e.command ≡ command.Insert i → i.table ≡ table → Stand h last ps
+      → Stand (h ++ e ∷ []) (last + 1) (ps ++ portion_of schema (last + 1) i ∷ [])
+  stand_more h e i last ps is named s =
       let same : same_bytes i.table table ≡ true = ap (λ t. same_bytes t table) named ∙ itself_same table in
       let drawn : numbered table (h ++ e ∷ []) ≡ numbered table h ++ command.Insert i ∷ [] =
       numbered_more table h (e ∷ []) ∙ ap (λ cs. numbered table h ++ cs) (drawn_if e i true is same) in
       let there : schema_of i.table (made h) ≡ Some schema = ap (λ t. schema_of t (made h)) named ∙ made_schema h in
       let grown = table_grown (made h) e i schema is there (map as_part ps) (subst (λ t. TableStands t (map as_part ps) (made h)) (sym named) s.stands) in
       let new = part_of_insert schema (length (numbered i.table (made h)) + 1) i in
-      let number : length (numbered i.table (made h)) + 1 ≡ length ps + 1 = ap (λ n. n + 1) (ap (λ t. length (numbered t (made h))) named ∙ sym s.count) in
-      let part : new ≡ as_part (portion_of schema (length ps + 1) i) = ap₂ (one_part i) named number in
+      let number : length (numbered i.table (made h)) + 1 ≡ last + 1 = ap (λ n. n + 1) (ap (λ t. length (numbered t (made h))) named ∙ sym s.count) in
+      let part : new ≡ as_part (portion_of schema (last + 1) i) = ap₂ (one_part i) named number in
       record {
-        count = length-append ps (portion_of schema (length ps + 1) i ∷ []) ∙ ap (λ n. n + 1) s.count ∙ sym (length-append (numbered table h) (command.Insert i ∷ [])) ∙ ap length (sym drawn);
-        own = All-push Unmutated ps (portion_of schema (length ps + 1) i) s.own refl;
+        count = ap (λ n. n + 1) s.count ∙ sym (length-append (numbered table h) (command.Insert i ∷ [])) ∙ ap length (sym drawn);
+        own = All-push Unmutated ps (portion_of schema (last + 1) i) s.own refl;
         stands = subst (λ qs. TableStands table qs (made (h ++ e ∷ [])))
-            (ap (λ q. map as_part ps ++ q ∷ []) part ∙ sym (map-append as_part ps (portion_of schema (length ps + 1) i ∷ [])))
+            (ap (λ q. map as_part ps ++ q ∷ []) part ∙ sym (map-append as_part ps (portion_of schema (last + 1) i ∷ [])))
             (subst (λ t. TableStands t (map as_part ps ++ new ∷ []) (made (h ++ e ∷ []))) named grown);
       }
 
-  stand_after : (h : History) (e : Entry) (ps : List Portion) → Stand h ps → Stand (h ++ e ∷ []) (portions_after table schema ps e.command)
-  stand_after h e ps s = by e.command refl
+  altered_if : (e : Entry) (a : Alter) (b : Bool) → e.command ≡ command.Alter a → same_bytes a.table table ≡ b → numbered table (e ∷ []) ≡ cond b (command.Alter a ∷ []) []
+  altered_if e a b is same = ap (λ c. cond (draws table c) (c ∷ []) []) is ∙ ap (λ b. cond b (command.Alter a ∷ []) []) same
+
+  -- a mutation of the table draws a number, and leaves the portions
+  stand_altered : (h : History) (e : Entry) (a : Alter) (last : ℕ) (ps : List Portion) → e.command ≡ command.Alter a → a.table ≡ table → Stand h last ps → Stand (h ++ e ∷ []) (last + 1) ps
+  stand_altered h e a last ps is named s =
+      let same : same_bytes a.table table ≡ true = ap (λ t. same_bytes t table) named ∙ itself_same table in
+      let drawn : numbered table (h ++ e ∷ []) ≡ numbered table h ++ command.Alter a ∷ [] =
+      numbered_more table h (e ∷ []) ∙ ap (λ cs. numbered table h ++ cs) (altered_if e a true is same) in
+      record {
+        count = ap (λ n. n + 1) s.count ∙ sym (length-append (numbered table h) (command.Alter a ∷ [])) ∙ ap length (sym drawn);
+        own = s.own;
+        stands = subst (λ t. TableStands t (map as_part ps) (made (h ++ e ∷ []))) named
+            (table_altered (made h) e a (map as_part ps) is (subst (λ t. TableStands t (map as_part ps) (made h)) (sym named) s.stands));
+      }
+
+  stand_after : (h : History) (e : Entry) (last : ℕ) (ps : List Portion) → Stand h last ps → Stand (h ++ e ∷ []) (last_after table last e.command) (portions_after table schema last ps e.command)
+  stand_after h e last ps s = by e.command refl
     where
-      by : (c : Command) → e.command ≡ c → Stand (h ++ e ∷ []) (portions_after table schema ps c)
-      by (command.Create c) is = stand_kept h e ps (ap (λ c. cond (draws table c) (c ∷ []) []) is) s
+      by : (c : Command) → e.command ≡ c → Stand (h ++ e ∷ []) (last_after table last c) (portions_after table schema last ps c)
+      by (command.Create c) is = stand_kept h e last ps (ap (λ c. cond (draws table c) (c ∷ []) []) is) s
       by (command.Insert i) is = named (same_bytes i.table table) refl
         where
-          named : (b : Bool) → same_bytes i.table table ≡ b → Stand (h ++ e ∷ []) (cond b (ps ++ portion_of schema (length ps + 1) i ∷ []) ps)
-          named true same = stand_more h e i ps is (same_is i.table table same) s
-          named false same = stand_kept h e ps (drawn_if e i false is same) s
+          named : (b : Bool) → same_bytes i.table table ≡ b → Stand (h ++ e ∷ []) (cond b (last + 1) last) (cond b (ps ++ portion_of schema (last + 1) i ∷ []) ps)
+          named true same = stand_more h e i last ps is (same_is i.table table same) s
+          named false same = stand_kept h e last ps (drawn_if e i false is same) s
+      by (command.Alter a) is = named (same_bytes a.table table) refl
+        where
+          named : (b : Bool) → same_bytes a.table table ≡ b → Stand (h ++ e ∷ []) (cond b (last + 1) last) ps
+          named true same = stand_altered h e a last ps is (same_is a.table table same) s
+          named false same = stand_kept h e last ps (altered_if e a false is same) s
 
-  stand_all : (h es : History) (ps : List Portion) → Stand h ps → Stand (h ++ es) (portions_from table schema ps es)
-  stand_all h [] ps s = subst (λ x. Stand x ps) (sym (append-nil h)) s
-  stand_all h (e ∷ es) ps s =
-      subst (λ x. Stand x (portions_from table schema (portions_after table schema ps e.command) es)) (append_assoc h (e ∷ []) es)
-      (stand_all (h ++ e ∷ []) es (portions_after table schema ps e.command) (stand_after h e ps s))
+  stand_all : (h es : History) (last : ℕ) (ps : List Portion) → Stand h last ps → (end : ℕ) × Stand (h ++ es) end (portions_from table schema last ps es)
+  stand_all h [] last ps s = (last, subst (λ x. Stand x last ps) (sym (append-nil h)) s)
+  stand_all h (e ∷ es) last ps s =
+      let next = last_after table last e.command in
+      let now = portions_after table schema last ps e.command in
+      let rest = stand_all (h ++ e ∷ []) es next now (stand_after h e last ps s) in
+      (rest.0, subst (λ x. Stand x rest.0 (portions_from table schema next now es)) (append_assoc h (e ∷ []) es) rest.1)
 
   pub unmerged_stand : (h : History) → PortionsStand h table schema (unmerged table schema h)
-  unmerged_stand h = let all = stand_all [] h [] none_yet in portions_stand h (unmerged table schema h) all.own all.stands
+  unmerged_stand h = let all = (stand_all [] h 0 [] none_yet).1 in portions_stand h (unmerged table schema h) all.own all.stands

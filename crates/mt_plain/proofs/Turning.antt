@@ -10,7 +10,7 @@ use Rattle.part_history.specs.mt_model.declared.refusal.Refusal.TheVariants as r
 use Rattle.part_history.specs.mt_model.declared.refusal.Room.TheVariants as room
 use Rattle.part_history.specs.mt_model.History.{History, entered, inserts}
 use Rattle.part_history.specs.mt_model.Numbers.{last_number}
-use Rattle.part_history.specs.mt_model.Reply.{insert_turn}
+use Rattle.part_history.specs.mt_model.Reply.{insert_turn, number_turn}
 use Rattle.part_history.specs.mt_model.Session.{Accepts, Adds, TurnAllows, TurnRefuses}
 use Rattle.part_history.proofs.MtModelGrowing.{adds_last, adds_more}
 use Rattle.mt_plain.specs.Plain.{AfterTurns, Grows, after_turns, unless_turn_refuses, unmerged_turn}
@@ -54,14 +54,23 @@ allowed_none parts drawn accepted none = by (nat_le 3000 parts) (nat_le 42949672
     by false true e = cc
     by false false e = refl
 
+numbered_none : (drawn accepted : ℕ) → number_turn drawn accepted ≡ None → number_turn drawn 0 ≡ None
+numbered_none drawn accepted none = by (nat_le 4294967295 drawn) none
+  where
+    by : (b : Bool) → cond b (Some (refusal.Full room.Numbers accepted)) None ≡ None → cond b (Some (refusal.Full room.Numbers 0)) None ≡ None
+    by true e = cc
+    by false e = refl
+
 turn_allows : (h : History) (accepted : ℕ) (c : Command) → unmerged_turn h accepted c ≡ None → TurnAllows h c
 turn_allows h accepted (command.Create c) none = none
 turn_allows h accepted (command.Insert i) none =
     (inserts i.table i.partition h, omega arith, allowed_none (inserts i.table i.partition h) (last_number i.table h) accepted none)
+turn_allows h accepted (command.Alter a) none = numbered_none (last_number a.table h) accepted none
 
 pub turn_refuses : (h : History) (accepted : ℕ) (c : Command) (why : Refusal) → unmerged_turn h accepted c ≡ Some why → TurnRefuses h accepted c why
 turn_refuses h accepted (command.Create c) why is = is
 turn_refuses h accepted (command.Insert i) why is = (inserts i.table i.partition h, omega arith, is)
+turn_refuses h accepted (command.Alter a) why is = is
 
 -- ---- all commands of a statement
 

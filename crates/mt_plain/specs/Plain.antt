@@ -12,7 +12,7 @@ use Rattle.part_history.specs.mt_model.History.{FewInserts, History, entered, in
 use Rattle.part_history.specs.mt_model.Numbers.{last_number}
 use Rattle.part_history.specs.mt_model.Outside.{Outside}
 use Rattle.part_history.specs.mt_model.Refusals.{refusal_line}
-use Rattle.part_history.specs.mt_model.Reply.{create_turn, insert_turn, ok_line}
+use Rattle.part_history.specs.mt_model.Reply.{create_turn, insert_turn, number_turn, ok_line}
 use Rattle.part_history.specs.mt_model.Script.{OwnEntries}
 use Rattle.part_history.specs.mt_model.Session.{Takes}
 
@@ -24,6 +24,7 @@ calm = record { opened = 0; ended = 0; full = false }
 abbrev pub unmerged_turn : History → ℕ → Command → Option Refusal
 unmerged_turn h accepted (command.Create c) = create_turn c.table h
 unmerged_turn h accepted (command.Insert i) = insert_turn (inserts i.table i.partition h) (last_number i.table h) accepted
+unmerged_turn h accepted (command.Alter a) = number_turn (last_number a.table h) accepted
 
 -- the history that commands leave, and why one of them was refused
 pub record AfterTurns : Type 0 where

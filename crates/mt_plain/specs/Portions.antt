@@ -1,4 +1,4 @@
--- The portions of a table in the plain program, which merges nothing: each INSERT is one.
+-- The portions of a table in the plain program, which merges and rewrites nothing: each INSERT is one, and no mutation was applied to it.
 use Rattle.std.specs.Prelude.{ℕ, ◌+◌, Bool, List, [], ◌∷◌, ◌++◌, length, if◌then◌else◌}
 use Rattle.std.specs.List.{count_by, list_any}
 use Rattle.mt_values.specs.declared.command.Command.{Command}
@@ -11,26 +11,34 @@ use Rattle.part_history.specs.mt_model.declared.counts.Counts.{Counts}
 use Rattle.part_history.specs.mt_model.Explain.{Portion}
 use Rattle.part_history.specs.mt_model.History.{History}
 use Rattle.part_history.specs.mt_model.Live.{sorted}
+use Rattle.part_history.specs.mt_model.Numbers.{draws}
 
 -- the portion of one INSERT with this number: its rows in the table's order
 abbrev pub portion_of : Schema → ℕ → Insert → Portion
 portion_of schema n i =
     record { partition = i.partition; least = n; greatest = n; version = n; rows = sorted (sorting_cmp schema) i.block.rows }
 
--- the portions of a table after one more command: an INSERT into it is one more, with the next number
-abbrev pub portions_after : List ℕ → Schema → List Portion → Command → List Portion
-portions_after table schema ps (command.Create c) = ps
-portions_after table schema ps (command.Insert i) =
-    if same_bytes i.table table then ps ++ portion_of schema (length ps + 1) i ∷ [] else ps
+-- the last number of a table that was drawn, after one more command
+abbrev pub last_after : List ℕ → ℕ → Command → ℕ
+last_after table last c = if draws table c then last + 1 else last
 
--- what commands add to these portions
-abbrev pub portions_from : List ℕ → Schema → List Portion → History → List Portion
-portions_from table schema ps [] = ps
-portions_from table schema ps (e ∷ es) = portions_from table schema (portions_after table schema ps e.command) es
+-- the portions of a table after one more command, by the last number that was drawn before: an INSERT into it is one more, with the next number; a
+-- mutation draws a number and changes none
+abbrev pub portions_after : List ℕ → Schema → ℕ → List Portion → Command → List Portion
+portions_after table schema last ps (command.Create c) = ps
+portions_after table schema last ps (command.Insert i) =
+    if same_bytes i.table table then ps ++ portion_of schema (last + 1) i ∷ [] else ps
+portions_after table schema last ps (command.Alter a) = ps
+
+-- what commands add to these portions, by the last number that was drawn before
+abbrev pub portions_from : List ℕ → Schema → ℕ → List Portion → History → List Portion
+portions_from table schema last ps [] = ps
+portions_from table schema last ps (e ∷ es) =
+    portions_from table schema (last_after table last e.command) (portions_after table schema last ps e.command) es
 
 -- the portions of a table of this schema
 abbrev pub unmerged : List ℕ → Schema → History → List Portion
-unmerged table schema h = portions_from table schema [] h
+unmerged table schema h = portions_from table schema 0 [] h
 
 -- the numbers of an EXPLAIN over one part more, whose granules are chosen so
 abbrev pub with_part : Counts → List Bool → Counts

@@ -6,6 +6,7 @@ ghost use Rattle.part_history.specs.mt_model.Script.{HasNoExplain, ScriptRun};
 ghost use Rattle.mt_plain.specs.Outcomes.{AddsExactly, AreExactly, IsExactly};
 ghost use Rattle.mt_plain.specs.Plain.{OneStandsFrom, StandsFrom, calm};
 
+use crate::alters::same_alters;
 use crate::replying::replies_after;
 use crate::{same_blocks, same_creates};
 use mt_base::NoMemory;
@@ -163,6 +164,7 @@ fn same_commands(alloc: Global, a: &Command, b: &Command) -> Result<bool, NoMemo
     match (a, b) {
         (Command::Create(c), Command::Create(d)) => Ok(same_creates(c, d)),
         (Command::Insert(i), Command::Insert(j)) => same_inserts(alloc, i, j),
+        (Command::Alter(one), Command::Alter(other)) => Ok(same_alters(one, other)),
         _ => Ok(false),
     }
 }

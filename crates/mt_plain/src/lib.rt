@@ -2,6 +2,7 @@
 #![tactic(auto)]
 
 mod aggregates;
+mod alters;
 mod blocks;
 mod boxes;
 mod checking;
@@ -45,6 +46,7 @@ pub use keys::{key_values, picked_rows};
 pub use lefts::all_seen;
 pub use live::live_rows;
 pub use merges::{all_merged, merged};
+pub use on_fly;
 pub use partitions::{partitions_of, rows_in, same_partition};
 pub use portions::{Portion, portions_of};
 pub use printing::all_lines;

@@ -1,9 +1,10 @@
 // The portions of a table: nothing was merged, so each INSERT is one.
-ghost use Rattle.std.specs.Prelude.{◌≡◌, IfOk, OnOk};
+ghost use Rattle.std.specs.Prelude.{◌≡◌, ◌+◌, ◌<◌, ◌≤◌, IfOk, OnOk};
 ghost use Rattle.part_history.specs.mt_model.Explain as explain;
 ghost use Rattle.mt_plain.specs.Portions as portions;
 
 use super::sorting::sorted_rows;
+use super::tables::draws;
 use crate::{Order, rows_of};
 use mt_base::NoMemory;
 use mt_values::{Command, Entry, Insert, Name, Partition, Row, Schema};
@@ -83,30 +84,45 @@ pub fn portions_of(
         (λ found. explain.PortionsStand entries.now table.now schema.now found.items) }
 {
     let mut found = Vec::new(alloc);
+    let mut last = 0;
     for entry in entries {
-        add_portion(alloc, table, schema, &mut found, &entry.command)?;
+        add_portion(alloc, table, schema, last, &mut found, &entry.command)?;
+        last = last_after(table, last, &entry.command);
     }
     Ok(found)
 }
 
-/// Adds what a command adds to a table's portions.
+/// Adds what a command adds to a table's portions, after the last number that was drawn.
 fn add_portion(
     alloc: Global,
     table: &Name,
     schema: &Schema,
+    last: usize,
     found: &mut Vec<Portion>,
     command: &Command,
 ) -> Result<(), NoMemory>
-    ensures { OnOk result (found.new.items ≡ portions.portions_after table.now schema.now
+    requires { last < 18446744073709551615 }
+    ensures { OnOk result (found.new.items ≡ portions.portions_after table.now schema.now last
         found.old.items command.now) }
 {
     if let Command::Insert(insert) = command {
         if insert.table == *table {
-            let number = found.len() + 1;
-            found.push(portion_of(alloc, schema, number, insert)?)?;
+            found.push(portion_of(alloc, schema, last + 1, insert)?)?;
         }
     }
     Ok(())
+}
+
+/// The last number of a table that was drawn, after one more command.
+fn last_after(table: &Name, last: usize, command: &Command) -> usize
+    requires { last < 18446744073709551615 }
+    ensures last { result ≡ portions.last_after table.now last command.now }
+    ensures few { result ≤ last + 1 }
+{
+    if draws(command, table) {
+        return last + 1;
+    }
+    last
 }
 
 /// The portion of one INSERT with this number.

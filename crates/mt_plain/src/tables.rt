@@ -62,7 +62,7 @@ fn is_create(command: &Command) -> bool
 {
     match command {
         Command::Create(_) => true,
-        Command::Insert(_) => false,
+        Command::Insert(_) | Command::Alter(_) => false,
     }
 }
 
@@ -75,16 +75,18 @@ fn inserts_into(command: &Command, table: &Name, partition: Partition) -> bool
         Command::Insert(insert) => {
             insert.table == *table && same_partition(insert.partition, partition)
         }
+        Command::Alter(_) => false,
     }
 }
 
 /// Whether a command draws a number of a table.
-fn draws(command: &Command, table: &Name) -> bool
+pub(crate) fn draws(command: &Command, table: &Name) -> bool
     ensures { result ≡ numbers.draws table.now command.now }
 {
     match command {
         Command::Create(_) => false,
         Command::Insert(insert) => insert.table == *table,
+        Command::Alter(alter) => alter.table == *table,
     }
 }
 

@@ -47,6 +47,7 @@ fn turn(
     match command {
         Command::Create(create) => create_turn(alloc, entries, &create.table),
         Command::Insert(insert) => Ok(insert_turn(entries, accepted, insert)),
+        Command::Alter(alter) => Ok(number_turn(entries, accepted, &alter.table)),
     }
 }
 
@@ -78,7 +79,14 @@ fn insert_turn(entries: &[Entry], accepted: usize, insert: &Insert) -> Option<Re
         let room = Room::Parts;
         return Some(Refusal::Full { room, accepted });
     }
-    if last_number(entries, &insert.table) >= NUMBER_LIMIT as usize {
+    number_turn(entries, accepted, &insert.table)
+}
+
+/// Why a table has no number for another command.
+fn number_turn(entries: &[Entry], accepted: usize, table: &Name) -> Option<Refusal>
+    ensures { result ≡ reply.number_turn (numbers.last_number table.now entries.now) accepted }
+{
+    if last_number(entries, table) >= NUMBER_LIMIT as usize {
         let room = Room::Numbers;
         return Some(Refusal::Full { room, accepted });
     }

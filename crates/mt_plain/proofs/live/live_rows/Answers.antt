@@ -14,4 +14,4 @@ loop-entry-preserved c =
     let rest = drop (c.loop-entry.entry-index + 1) es in
     let step = at_drop_more (live_from t k rows) es c.loop-entry.entry-index c.entry-item.result c.loop-entry-test.true in
     let item = ap (λ (e : Entry). live_from t k (rows_after t k rows e.command) rest) (sym c.entry-item.is) in
-    ap (λ (r : List Row). live_from t k r rest) c.in_ok-add_rows.ensures ∙ sym (step ∙ item) ∙ c.loop-entry.invariant
+    ap (λ (r : List Row). live_from t k r rest) c.in_ok-take_command.ensures ∙ sym (step ∙ item) ∙ c.loop-entry.invariant

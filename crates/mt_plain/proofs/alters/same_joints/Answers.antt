@@ -1,0 +1,6 @@
+use Rattle.std.proofs.lemmas.Bool.Decides.{Decides-at}
+use Rattle.mt_plain.proofs.Alike.{joints_same}
+use Rattle.mt_plain.proofs.alters.same_joints.Goals as goal
+
+pub returns : goal.returns
+returns c = Decides-at _ _ c.eq.ensures (joints_same c.args.a.now c.args.b.now)
