@@ -16,10 +16,14 @@ pub struct KeptAnnals {
 }
 
 impl Model for KeptAnnals {
+    ghost use Rattle.std.specs.Coded.{codes};
     ghost use Rattle.std.specs.Prelude.{◌≡◌, ◌-◌, min, length, vec_capacity};
+    ghost use Rattle.mt_values.specs.PolishCode.{condition_code};
     ghost use Rattle.disk_mem.specs.Annals.{Kept, noted_all};
 
     ghost Value = { Kept };
+
+    ghost coded = { Prim.hlevel (codes, condition_code) };
 
     ghost view = { λ a. record { list = noted_all a.list.items a.marks.items; begun = a.begun; room = min (vec_capacity a.list - length a.list.items) (vec_capacity a.marks - length a.marks.items) } };
 

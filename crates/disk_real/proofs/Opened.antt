@@ -1,9 +1,9 @@
 -- Lists of open files, each with what is gathered of it.
-use Rattle.std.proofs.Common.{◌≡◌, IsTrue, ℕ, ◌<◌, ◌+◌, zero, suc, List, [], ◌∷◌, All, Result, Ok, Err, OnOk, refl, ap, ◌∙◌, sym, subst, inl, inr, map, not, set, length, get_or, take, arith}
+use Rattle.std.proofs.Common.{◌≡◌, IsTrue, ℕ, ◌<◌, ◌≤◌, ◌+◌, ◌||◌, Bool, false, zero, suc, List, [], ◌∷◌, All, Result, Ok, Err, OnOk, refl, ap, ◌∙◌, sym, subst, inl, inr, map, not, set, length, get_or, drop, take, arith}
 use Rattle.std.specs.Prelude.{filter}
 use Rattle.std.specs.List.{list_any}
 use Rattle.std.proofs.lemmas.Bool.{cases_Bool}
-use Rattle.std.proofs.lemmas.List.{take_more_set}
+use Rattle.std.proofs.lemmas.List.{drop_all, drop_more, take_more_set}
 use Rattle.std.proofs.lemmas.List.Elements.{All-filter, All-map, All-push}
 use Rattle.mt_base.specs.declared.name.FileId.{FileId}
 use Rattle.mt_base.specs.Files.{same_file}
@@ -50,6 +50,31 @@ module _ {W : Type 0} where
   pub empty-set : (files : List (FileId × Gathered W)) (place : ℕ) (file : FileId) (g : Gathered W) → place < length files → AreEmpty (take place files) → g.bytes ≡ [] → AreEmpty (take (place + 1) (set files place (file, g)))
   empty-set files place file g inside before none =
       subst AreEmpty (sym (take_more_set files place (file, g) inside)) (All-push (λ (o : FileId × Gathered W). o.1.bytes ≡ []) (take place files) (file, g) before none)
+
+  -- ---- the one to which bytes are added
+
+  -- the file is one of these
+  abbrev pub has_in : FileId → List (FileId × Gathered W) → Bool
+  has_in file files = list_any (λ o. same_file o.0 file) files
+
+  pub has_held : (file : FileId) (files : List (FileId × Gathered W)) → has file (held files) ≡ has_in file files
+  has_held file [] = refl
+  has_held file (o ∷ os) = ap (λ b. same_file o.0 file || b) (has_held file os)
+
+  -- where the next one is another, it comes after that
+  pub left_more : (file : FileId) (files : List (FileId × Gathered W)) (place : ℕ) (o : FileId × Gathered W) → place < length files → same_file (get_or files place o).0 file ≡ false
+      → IsTrue (has_in file (drop place files)) → IsTrue (has_in file (drop (place + 1) files))
+  left_more file files place o inside other there =
+      subst IsTrue
+      (ap (has_in file) (drop_more files place o inside)
+      ∙ ap (λ b. b || has_in file (drop (place + 1) files)) other)
+      there
+
+  -- after the last one there is none
+  pub none_left : (file : FileId) (files : List (FileId × Gathered W)) (place : ℕ) → length files ≤ place → IsTrue (has_in file (drop place files)) → ⊥
+  none_left file files place past there =
+      let never : IsTrue (has_in file []) = subst (λ (os : List (FileId × Gathered W)). IsTrue (has_in file os)) (drop_all place files past) there in
+      cc
 
 -- ---- without one of them
 

@@ -1,5 +1,7 @@
 // The open files of a stage.
 ghost use Rattle.std.specs.Prelude.{◌≡◌, ◌++◌, ◌∷◌, [], ◌↔◌, All, IsSome, IsTrue, OnErr, OnOk, map};
+ghost use Rattle.std.specs.List.{list_any};
+ghost use Rattle.mt_base.specs.Files.{same_file};
 ghost use Rattle.disk_real.specs.Stages.{AreWritten, files_of, has, without};
 
 use crate::gathering::Gathering;
@@ -61,6 +63,7 @@ impl Handles {
 
     /// Adds bytes at the end of an open file; they may be gathered.
     pub(crate) fn append(&mut self, file: FileId, bytes: &[u8]) -> Result<(), DiskError>
+        requires { IsTrue (has file self.old) }
         ensures { files_of self.new ≡ files_of self.old }
     {
         append_among(&mut self.open, file, bytes)
@@ -85,27 +88,28 @@ impl Handles {
 
 // Adds bytes at the end of the file, which is one of these.
 fn append_among(
-    open: &mut [(FileId, Gathering<File>)],
+    files: &mut [(FileId, Gathering<File>)],
     file: FileId,
     bytes: &[u8],
 ) -> Result<(), DiskError>
-    ensures { map (λ o. o.0) open.new ≡ map (λ o. o.0) open.old }
+    requires { IsTrue (list_any (λ o. same_file o.0 file) files.old) }
+    ensures { map (λ o. o.0) files.new ≡ map (λ o. o.0) files.old }
 {
-    for place in 0..open.len() {
-        if open[place].0.is(file) {
-            return open[place].1.push(bytes);
+    for place in 0..files.len() {
+        if files[place].0.is(file) {
+            return files[place].1.push(bytes);
         }
     }
-    Err(DiskError::Fault)
+    unreachable!()
 }
 
 // Writes what is gathered of each of these.
-fn write_each(open: &mut [(FileId, Gathering<File>)]) -> Result<(), DiskError>
-    ensures same { map (λ o. o.0) open.new ≡ map (λ o. o.0) open.old }
-    ensures written { OnOk result (All (λ o. o.1.bytes ≡ []) open.new) }
+fn write_each(files: &mut [(FileId, Gathering<File>)]) -> Result<(), DiskError>
+    ensures same { map (λ o. o.0) files.new ≡ map (λ o. o.0) files.old }
+    ensures written { OnOk result (All (λ o. o.1.bytes ≡ []) files.new) }
 {
-    for place in 0..open.len() {
-        open[place].1.write_out()?;
+    for place in 0..files.len() {
+        files[place].1.write_out()?;
     }
     Ok(())
 }

@@ -18,11 +18,15 @@ pub struct Seat<B: Room> {
 }
 
 impl<B: Room> Model for Seat<B> {
+    ghost use Rattle.std.specs.Coded.{codes};
     ghost use Rattle.std.specs.Prelude.{◌≡◌, true};
+    ghost use Rattle.mt_values.specs.PolishCode.{condition_code};
     ghost use Rattle.history_seat.specs.declared.view.View.{View};
     ghost use Rattle.history_seat.specs.Views.{is_seat};
 
     ghost Value = { View };
+
+    ghost coded = { Prim.hlevel (codes, condition_code) };
 
     ghost view = { λ s. s.place.me.0 };
 
@@ -57,11 +61,15 @@ pub struct Note<B: Room> {
 }
 
 impl<B: Room> Model for Note<B> {
+    ghost use Rattle.std.specs.Coded.{codes};
     ghost use Rattle.std.specs.Prelude.{◌≡◌, []};
+    ghost use Rattle.mt_values.specs.PolishCode.{condition_code};
     ghost use Rattle.history_seat.specs.declared.view.Kind.TheVariants as kind;
     ghost use Rattle.history_seat.specs.declared.view.View.{View};
 
     ghost Value = { View };
+
+    ghost coded = { Prim.hlevel (codes, condition_code) };
 
     ghost view = { λ n. n.place.me.0 };
 

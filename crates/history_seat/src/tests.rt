@@ -20,11 +20,15 @@ struct Locked<B: Room> {
 }
 
 impl<B: Room> Model for Locked<B> {
+    ghost use Rattle.std.specs.Coded.{codes};
     ghost use Rattle.std.specs.Prelude.{List};
+    ghost use Rattle.mt_values.specs.PolishCode.{condition_code};
     ghost use Rattle.mt_values.specs.declared.command.Entry.{Entry};
     ghost use Rattle.history_seat.specs.Turns.{IsLock};
 
     ghost Value = { List Entry };
+
+    ghost coded = { Prim.hlevel (codes, condition_code) };
 
     ghost view = { λ l. l.seat.list };
 

@@ -61,7 +61,7 @@ pub struct Stamped<F> {
 
 /// A folder that is being made. Its owner alone writes it.
 ///
-/// It can't be let go: it is published, or given up by the arm that made it. So its count of failed calls reaches the disk.
+/// It must be given back: it is published, or given up by the arm that made it. So its count of failed calls reaches the disk.
 pub trait Stage: Send {
     /// The files with their bytes, where the stage tells.
     ghost files: { Self → Option (List Written) };
@@ -103,7 +103,7 @@ pub trait Dir: Sized + Drop + Send + Sync {
 
 /// What reads folders and makes stages, for one session or merger.
 ///
-/// It can't be let go: the disk that made it takes it back. So its count of failed calls reaches the disk.
+/// It must be given back: the disk that made it takes it. So its count of failed calls reaches the disk.
 pub trait Arm: Send {
     type Stage: Stage;
 

@@ -10,12 +10,14 @@ use Rattle.mt_values.specs.declared.schema.SkipIndex.{SkipIndex}
 use Rattle.mt_values.specs.declared.value.ColType.{ColType}
 use Rattle.mt_values.specs.declared.value.ColType.TheVariants as type
 use Rattle.mt_values.specs.declared.value.Value.{Value}
+use Rattle.mt_values.specs.ColumnBytes.{column_bytes}
 use Rattle.mt_values.specs.Granules.{granules}
 use Rattle.mt_values.specs.Order.{value_cmp}
 use Rattle.mt_values.specs.Schemas.{column_types}
 use Rattle.predicate.specs.declared.extent.Known.{Known}
 use Rattle.predicate.specs.declared.extent.Known.TheVariants as known
 use Rattle.column_file.specs.Spellings.{IsOfType}
+use Rattle.column_file.specs.byte_numbers.Fronts.{Begins}
 use Rattle.skip_index.specs.declared.index.Index.{Index}
 use Rattle.skip_index.specs.declared.shapes.BlockShape.{BlockShape}
 use Rattle.skip_index.specs.declared.shapes.IndexShape.{IndexShape}
@@ -45,6 +47,12 @@ MayEnd rows lo hi = IsTrue (is_le (value_cmp lo hi)) × (rows ≡ 1 → lo ≡ h
 pub record AreDistinctOf (t : ColType) (values : List Value) : Type 0 where
   pub typed : All (IsOfType t) values
   pub distinct : distinct_of values ≡ values
+
+-- the bytes begin with these values, this many of a type, none of them twice; their spelling has this size
+pub record AreReadAt (t : ColType) (count : ℕ) (bytes : List ℕ) (values : List Value) (size : ℕ) : Type 0 where
+  pub count_is : length values ≡ count
+  pub sound : AreDistinctOf t values
+  pub begins : Begins (column_bytes values) size bytes
 
 -- a set may keep no value of a block: the block can have more distinct ones than it keeps
 abbrev pub MayKeepNone : BlockShape → ℕ → Type 0

@@ -3,10 +3,9 @@ ghost use Rattle.std.specs.Prelude.{◌≡◌, ◌<◌, ◌≤◌, ◌↔◌, If
 ghost use Rattle.std.specs.Int.{w32, to_le_bytes};
 ghost use Rattle.column_file.specs.byte_numbers.Fronts.{Begins};
 ghost use Rattle.mt_values.specs.Cells.{value_of};
-ghost use Rattle.mt_values.specs.ColumnBytes.{column_bytes};
 ghost use Rattle.skip_index.specs.Blocks.{HasIndex, blocks_bytes, known_bytes};
 ghost use Rattle.skip_index.specs.Faults.{ExplainsBlock, ExplainsIndex, ExplainsRange, ExplainsSet, ExplainsValues};
-ghost use Rattle.skip_index.specs.Files.{AreBlocksOf, AreDistinctOf, IsIndexFile, MayCount, MayEnd, MayKeep, block_size, has_more, shape_of};
+ghost use Rattle.skip_index.specs.Files.{AreBlocksOf, AreReadAt, IsIndexFile, MayCount, MayEnd, MayKeep, block_size, has_more, shape_of};
 ghost use Rattle.skip_index.specs.declared.index.Index.{Index as Kept};
 ghost use Rattle.mt_values.specs.declared.schema.IndexKind.TheVariants as kind_of;
 
@@ -210,9 +209,7 @@ fn read_values(
     at: usize,
 ) -> Result<(Seq<Value>, usize), FormatFault>
     requires { at ≤ length bytes.now }
-    ensures count { IfOk result (λ p. length p.0 ≡ count) }
-    ensures distinct { IfOk result (λ p. AreDistinctOf col_type p.0) }
-    ensures spelled { IfOk result (λ p. Begins (column_bytes p.0) p.1 (drop at bytes.now)) }
+    ensures read { IfOk result (λ p. AreReadAt col_type count (drop at bytes.now) p.0 p.1) }
     ensures fault { IfErr result (ExplainsValues col_type count at (drop at bytes.now)) }
 {
     let mut seen = IndexSet::new(alloc);

@@ -10,8 +10,8 @@ use mt_outside::{DiskError, Stage};
 use std::alloc::Global;
 use std::marker::Model;
 
-/// A stage that is being filled. It can't be let go, as its stage can't. Contracts see which files it has, each once and in the order in which they
-/// were made, what the stage tells of them, and how many of its calls have failed.
+/// A stage that is being filled. It must be sealed or given up, since the stage within must be given back. Contracts see which files it
+/// has, each once and in the order in which they were made, what the stage tells of them, and how many of its calls have failed.
 pub struct Open<S: Stage> {
     stage: S,
     names: Seq<FileId>,

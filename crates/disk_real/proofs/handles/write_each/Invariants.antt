@@ -4,6 +4,6 @@ use Rattle.disk_real.proofs.handles.write_each.Given as goal
 
 abbrev pub invariant-loop-place : goal.invariant-loop-place
 invariant-loop-place l = record {
-  same : map (λ o. o.0) l.open ≡ map (λ o. o.0) l.initial.open;
-  written : All (λ o. o.1.bytes ≡ []) (take l.place l.open);
+  same : map (λ o. o.0) l.files ≡ map (λ o. o.0) l.initial.files;
+  written : All (λ o. o.1.bytes ≡ []) (take l.place l.files);
 }

@@ -1,4 +1,4 @@
-use Rattle.std.proofs.Common.{◌+◌, List, drop, map, refl, subst, sym}
+use Rattle.std.proofs.Common.{◌+◌, List, arith, drop, map, refl, subst, sym}
 use Rattle.std.specs.List.{list_any}
 use Rattle.column_file.specs.byte_numbers.declared.faults.FormatFault.TheVariants.{Malformed}
 use Rattle.mt_values.specs.declared.value.Value.{Value}
@@ -37,3 +37,8 @@ loop-value-preserved c =
     let none = was_none _ (list_any (same_value (value_of k)) (map value_of keys)) c.in_ok-is_new.ensures.fresh c.if-not-is_new.false in
     value_more c.args.col_type c.args.bytes.now c.args.at c.loop-value.size c.loop-value._value keys c.loop-value.values c.loop-value.invariant c.in_ok-cell.width k c.see.new.seen.keys c.in_ok-to_value.field-0 c.push.new.self
     c.in_ok-cell.ensures.0 c.in_ok-cell.ensures.1 none c.in_ok-is_new.ensures.values c.in_ok-to_value.ensures c.in_ok-push.ensures.ok
+
+pub returns-clause-read : goal.returns-clause-read
+returns-clause-read c =
+    let read = c.loop-value.invariant in
+    record { count_is = omega (arith, read.count_is); sound = read.sound; begins = read.begins }
