@@ -1,8 +1,8 @@
 -- Bytes of a granule among those that were read ahead.
-use Rattle.std.proofs.Common.{◌≡◌, ℕ, zero, suc, ◌+◌, ◌-◌, ◌<◌, ◌≤◌, ◌⊎◌, inl, inr, min, List, [], ◌∷◌, Option, refl, sym, ap, ◌∙◌, subst, length, length-drop, take, drop, get_or, slice_range, arith, ◌≢◌}
+use Rattle.std.proofs.Common.{◌≡◌, ℕ, zero, suc, ◌+◌, ◌-◌, ◌<◌, ◌≤◌, ◌⊎◌, inl, inr, min, List, [], ◌∷◌, ◌++◌, Option, refl, sym, ap, ◌∙◌, subst, length, length-drop, take, drop, get_or, slice_range, arith, ◌≢◌}
 use Rattle.std.proofs.Math.ListN.{set}
 use Rattle.std.proofs.lemmas.Bool.{cases_eq, cases_lt}
-use Rattle.std.proofs.lemmas.List.{drop-drop, drop_all, get_or-set_other, get_or-set_same, length-set, take-take, take_all}
+use Rattle.std.proofs.lemmas.List.{drop-drop, drop_all, get_or-set_other, get_or-set_same, length-set, take-take, take_all, take_at}
 use Rattle.mt_base.specs.declared.name.FileId.TheVariants as file
 use Rattle.mt_outside.specs.Files.{Files, bytes_of}
 use Rattle.part_reader.specs.declared.ahead.Ahead.{Ahead}
@@ -67,3 +67,8 @@ ahead_set told most places aheads after i new are below e is = subst (AreAhead t
         let here : get_or (set aheads i new) k d ≡ new = ap (λ j. get_or (set aheads i new) j d) same ∙ get_or-set_same aheads i new d (omega (arith, below, are.even)) in
         subst (IsAhead told most (get_or places k 0)) (sym here) (subst (λ j. IsAhead told most (get_or places j 0) new) (sym same) is)
     either k d lt (inr other) = subst (IsAhead told most (get_or places k 0)) (sym (get_or-set_other aheads i k new d other)) (are.each k d lt)
+
+-- what was lent out is there again
+pub ahead_back : (told : Option Files) (most len : ℕ) (places : List ℕ) (items new : List Ahead) → length items ≡ len → AreAhead told most places items → AreAhead told most places new → AreAhead told most places (take len (new ++ drop (length new) items))
+ahead_back told most len places items new is before are =
+    subst (AreAhead told most places) (sym (take_at new (drop (length new) items) len (are.even ∙ sym before.even ∙ is))) are

@@ -25,10 +25,12 @@ use Rattle.part_reader.specs.declared.reading.PartFault.TheVariants.{Fault, NoMe
 use Rattle.part_reader.specs.Faults.{ExplainsAt, ExplainsEach, IsNoDamage}
 use Rattle.part_reader.specs.Granules.{ExplainsChosen, ExplainsRun, GainsChosen, IsChosenRun, IsRunAdded, PartColumn, chosen_count, chosen_of, column_in, rows_in}
 use Rattle.part_reader.specs.Parts.{HoldsAt}
+use Rattle.part_reader.specs.Picks.{GainsPicked, IsPickAdded}
 use Rattle.part_reader.specs.Readings.{AreGranuleColumns, ExplainsLeft, GivesGranule, GivesNext, IsFirstLeft, LeavesRows, Reading, count_left, from_granule, granule_items, lone, lone_chosen, rows_left}
 use Rattle.part_reader.proofs.ChosenColumns.{chosen_even, chosen_rows, chosen_types, gains_added, held_column, no_run_damage}
 use Rattle.part_reader.proofs.ChosenItems.{chosen_append, chosen_length, chosen_run, run_length}
 use Rattle.part_reader.proofs.CutRows.{count_more, count_skip, empty_even, rows_cut, with_empty}
+use Rattle.part_reader.proofs.PickedValues.{picks_added}
 use Rattle.part_reader.proofs.Holding.{columns_held, columns_within, each_typed, type_there}
 
 -- ---- granules of a choice
@@ -199,6 +201,32 @@ gains_lone c granule old new read =
     first_item : (n : ℕ) → get_or (true ∷ []) (n - n) false ≡ true
     first_item n = let none : n - n ≡ 0 = omega arith in ap (λ k. get_or (true ∷ []) k false) none
 
+lone_there : (granule : ℕ) → slice_get (lone_chosen granule) granule ≡ Some true
+lone_there granule =
+    let long : length (lone_chosen granule) ≡ granule + 1 = omega (arith, length-append (replicate granule false) (true ∷ []), length-replicate granule false) in
+    slice_get-get_or (lone_chosen granule) granule false (omega (arith, long))
+    ∙ ap Some (get_or-append_right (replicate granule false) (true ∷ []) granule granule false (length-replicate granule false) (omega arith) ∙ front granule)
+  where
+    front : (n : ℕ) → get_or (true ∷ []) (n - n) false ≡ true
+    front n = let none : n - n ≡ 0 = omega arith in ap (λ k. get_or (true ∷ []) k false) none
+
+-- the same of the wanted rows of a granule
+pub picks_lone : (c : PartColumn) (granule : ℕ) (mask : List Bool) (old new : Cells) → IsPickAdded c (lone granule) mask old new → length mask ≡ rows_in c.loaded (lone granule) → GainsPicked c (lone_chosen granule) mask old new
+picks_lone c granule mask old new read even =
+    let g = c.loaded.schema.granularity in
+    let single = lone_chosen granule in
+    let long : length single ≡ granule + 1 = omega (arith, length-append (replicate granule false) (true ∷ []), length-replicate granule false) in
+    let front : take granule single ≡ replicate granule false = take_at (replicate granule false) (true ∷ []) granule (length-replicate granule false) in
+    let nothing : GainsPicked c (take granule single) [] old old = record {
+      col_type = refl;
+      even = omega arith;
+      values = λ values h. ap (λ (vs : List Value). record old { values = vs }) (sym (append-nil old.values));
+    } in
+    let none : length {A = Bool} [] ≡ chosen_count g (take granule single) c.loaded.manifest.rows =
+    sym (ap (λ cs. chosen_count g cs c.loaded.manifest.rows) front ∙ ap length (chosen_none g granule (range_with_len 0 c.loaded.manifest.rows))) in
+    subst (λ cs. GainsPicked c cs mask old new) (take_all (granule + 1) single (omega (arith, long)))
+    (picks_added c single (lone granule) [] mask old old new nothing read (lone_run single granule (lone_there granule)) none even)
+
 -- nothing of it is damaged where the part holds rows
 module _ {F : Type 0} (files_of : F → Option Files) (schema : Schema) (part : Part F) (places : List ℕ) (rows : List Row) (h : HoldsAt files_of schema part (map file.Column places) rows) where
   pub lone_sound : (granule : ℕ) (columns : List Cells) (fault : PartFault) → granule < granules part.loaded.schema.granularity part.loaded.manifest.rows → map (λ (c : Cells). c.col_type) columns ≡ filter_map (slice_get (column_types schema)) places
@@ -216,17 +244,24 @@ module _ {F : Type 0} (files_of : F → Option Files) (schema : Schema) (part : 
   counted : length rows ≡ part.loaded.manifest.rows
   counted = sym (ap (λ (l : Loaded). l.manifest.rows) h.loaded_is)
 
+  -- a granule has as many of the rows as is kept of it
+  pub granule_many : (granule : ℕ) → length (granule_items part.loaded.schema.granularity granule rows) ≡ rows_in part.loaded (lone granule)
+  granule_many granule =
+      let g = part.loaded.schema.granularity in
+      let one : g * 1 ≡ g = omega arith in
+      run_length (g * granule) g part.loaded.manifest.rows rows counted ∙ ap (λ n. min n (part.loaded.manifest.rows - g * granule)) (sym one)
+
 -- the rows that were left are those that are given, and those that are left then
-pub given_parted : {F : Type 0} (files_of : F → Option Files) (old new : Reading F) (given : Grid) → GivesGranule files_of old new given → (schema : Schema) (rows : List Row) → HoldsAt files_of schema old.part (map file.Column old.places) rows
+pub given_parted : {F : Type 0} (files_of : F → Option Files) (old new : Reading F) (given : Grid) → GivesGranule files_of old new given → (rows : List Row) → HoldsAt files_of old.schema old.part (map file.Column old.places) rows
     → rows_left old rows ≡ given.rows ++ rows_left new rows
-given_parted files_of old new given gives schema rows h =
+given_parted files_of old new given gives rows h =
     let g = old.part.loaded.schema.granularity in
-    let even : length rows ≡ old.part.loaded.manifest.rows = counted files_of schema old.part old.places rows h in
+    let even : length rows ≡ old.part.loaded.manifest.rows = counted files_of old.schema old.part old.places rows h in
     let none = none_chosen g (take gives.granule old.left) old.part.loaded.manifest.rows rows even gives.first.none_before in
     let after : Reading _ = record old { left = from_granule (gives.granule + 1) old.left } in
     ap (map (selected old.places)) (first_parted g old.left gives.granule rows gives.first.there none)
     ∙ map-append (selected old.places) (granule_items g gives.granule rows) (chosen_of g (from_granule (gives.granule + 1) old.left) rows)
-    ∙ ap₂ (λ (a b : List Row). a ++ b) (sym (gives.rows schema rows h)) (ap (λ r. rows_left r rows) (sym gives.rest))
+    ∙ ap₂ (λ (a b : List Row). a ++ b) (sym (gives.rows rows h)) (ap (λ r. rows_left r rows) (sym gives.rest))
 
 -- so it is of their numbers
 pub count_parted : {F : Type 0} (files_of : F → Option Files) (old new : Reading F) (given : Grid) → GivesGranule files_of old new given → count_left old ≡ length given.rows + count_left new
@@ -247,11 +282,11 @@ count_parted files_of old new given gives =
         run_length (g * gives.granule) g count (range_with_len 0 count) (length-range_with_len 0 count) ∙ ap (λ n. min n (count - g * gives.granule)) (sym one)
 
 -- in one word
-pub next_leaves : {F : Type 0} (files_of : F → Option Files) (old new : Reading F) (given : Option Grid) → GivesNext files_of old new given → (schema : Schema) (rows : List Row) → HoldsAt files_of schema old.part (map file.Column old.places) rows
+pub next_leaves : {F : Type 0} (files_of : F → Option Files) (old new : Reading F) (given : Option Grid) → GivesNext files_of old new given → (rows : List Row) → HoldsAt files_of old.schema old.part (map file.Column old.places) rows
     → LeavesRows (rows_left old rows) (rows_left new rows) given
-next_leaves files_of old new None gives schema rows h =
-    ap (map (selected old.places)) (none_chosen old.part.loaded.schema.granularity old.left old.part.loaded.manifest.rows rows (counted files_of schema old.part old.places rows h) gives.1)
-next_leaves files_of old new (Some given) gives schema rows h = given_parted files_of old new given gives schema rows h
+next_leaves files_of old new None gives rows h =
+    ap (map (selected old.places)) (none_chosen old.part.loaded.schema.granularity old.left old.part.loaded.manifest.rows rows (counted files_of old.schema old.part old.places rows h) gives.1)
+next_leaves files_of old new (Some given) gives rows h = given_parted files_of old new given gives rows h
 
 -- ---- columns of a granule
 
@@ -314,14 +349,14 @@ granule_within g n number below = either (cases_lt 0 g)
 
 -- ---- what a call gives
 
-module _ {F : Type 0} (files_of : F → Option Files) (part : Part F) (places : List ℕ) where
+module _ {F : Type 0} (files_of : F → Option Files) (schema : Schema) (part : Part F) (places : List ℕ) where
   abbrev pub reading : List Bool → Reading F
-  reading left = record { part = part; places = places; left = left }
+  reading left = record { schema = schema; part = part; places = places; left = left }
 
   -- a block of the first granule that is left is given, and those after it are left
   pub gives_block : (chosen : List Bool) (at granule : ℕ) (block : Grid) → at ≤ granule → IsFirstLeft part.loaded (from_granule at chosen) granule → length block.rows ≡ rows_in part.loaded (lone granule)
-      → block.types ≡ filter_map (slice_get (column_types part.loaded.schema)) places
-      → ((schema : Schema) (rows : List Row) → HoldsAt files_of schema part (map file.Column places) rows → block.rows ≡ map (selected places) (granule_items part.loaded.schema.granularity granule rows))
+      → block.types ≡ filter_map (slice_get (column_types schema)) places
+      → ((rows : List Row) → HoldsAt files_of schema part (map file.Column places) rows → block.rows ≡ map (selected places) (granule_items part.loaded.schema.granularity granule rows))
       → GivesGranule files_of (reading (from_granule at chosen)) (reading (from_granule (granule + 1) chosen)) block
   gives_block chosen at granule block above first count types rows = record {
     granule = granule;
@@ -332,7 +367,8 @@ module _ {F : Type 0} (files_of : F → Option Files) (part : Part F) (places : 
     rows = rows;
   }
 
-  -- what is said of it is said of the granules that are left
+module _ {F : Type 0} (files_of : F → Option Files) (part : Part F) (places : List ℕ) where
+  -- what is said of a granule is said of those that are left
   pub left_explained : (types : List ColType) (left : List Bool) (granule : ℕ) (why : PartFault) → IsFirstLeft part.loaded left granule → ExplainsAt (λ number t. ExplainsRun (column_in files_of part number) (lone granule) t) types places why
       → ExplainsAt (λ number t. ExplainsLeft (column_in files_of part number) left t) types places why
   left_explained types left granule Fault first e = tt
@@ -371,54 +407,62 @@ given_among files_of old new given chosen gives among k there =
 -- ---- all that is given
 
 -- these rows were given of the chosen granules of a part, and the reader has the others still to come
-pub record HasGiven {F : Type 0} (files_of : F → Option Files) (part : Part F) (places : List ℕ) (chosen : List Bool) (r : Reading F) (given : List Row) : Type 0 where
+pub record HasGiven {F : Type 0} (files_of : F → Option Files) (schema : Schema) (part : Part F) (places : List ℕ) (chosen : List Bool) (r : Reading F) (given : List Row) : Type 0 where
+  pub schema_is : r.schema ≡ schema
   pub part_is : r.part ≡ part
   pub places_are : r.places ≡ places
   pub among : (k : ℕ) → slice_get r.left k ≡ Some true → slice_get chosen k ≡ Some true
-  pub rows : (schema : Schema) (rows : List Row) → HoldsAt files_of schema part (map file.Column places) rows → given ++ rows_left r rows ≡ map (selected places) (chosen_of part.loaded.schema.granularity chosen rows)
+  pub rows : (rows : List Row) → HoldsAt files_of schema part (map file.Column places) rows → given ++ rows_left r rows ≡ map (selected places) (chosen_of part.loaded.schema.granularity chosen rows)
   pub count : length given + count_left r ≡ chosen_count part.loaded.schema.granularity chosen part.loaded.manifest.rows
 
-module _ {F : Type 0} (files_of : F → Option Files) (part : Part F) (places : List ℕ) (chosen : List Bool) where
-  pub given_none : (r : Reading F) → r ≡ record { part = part; places = places; left = chosen } → HasGiven files_of part places chosen r []
+module _ {F : Type 0} (files_of : F → Option Files) (schema : Schema) (part : Part F) (places : List ℕ) (chosen : List Bool) where
+  pub given_none : (r : Reading F) → r ≡ record { schema = schema; part = part; places = places; left = chosen } → HasGiven files_of schema part places chosen r []
   given_none r is = record {
+    schema_is = ap (λ (x : Reading F). x.schema) is;
     part_is = ap (λ (x : Reading F). x.part) is;
     places_are = ap (λ (x : Reading F). x.places) is;
     among = λ k there. subst (λ (x : Reading F). slice_get x.left k ≡ Some true) is there;
-    rows = λ schema rows holds. ap (λ (x : Reading F). rows_left x rows) is;
+    rows = λ rows holds. ap (λ (x : Reading F). rows_left x rows) is;
     count = zero-add (count_left r) ∙ ap count_left is;
   }
 
-  module _ (r : Reading F) (given : List Row) (has : HasGiven files_of part places chosen r given) where
+  module _ (r : Reading F) (given : List Row) (has : HasGiven files_of schema part places chosen r given) where
     -- the reader's part is the one that holds rows
-    pub given_holds : (schema : Schema) (rows : List Row) → HoldsAt files_of schema part (map file.Column places) rows → HoldsAt files_of schema r.part (map file.Column r.places) rows
-    given_holds schema rows holds =
-        subst (λ (p : Part F). HoldsAt files_of schema p (map file.Column r.places) rows) (sym has.part_is)
-        (subst (λ (ps : List ℕ). HoldsAt files_of schema part (map file.Column ps) rows) (sym has.places_are) holds)
+    pub given_holds : (rows : List Row) → HoldsAt files_of schema part (map file.Column places) rows → HoldsAt files_of r.schema r.part (map file.Column r.places) rows
+    given_holds rows holds =
+        subst (λ (t : Schema). HoldsAt files_of t r.part (map file.Column r.places) rows) (sym has.schema_is)
+        (subst (λ (p : Part F). HoldsAt files_of schema p (map file.Column r.places) rows) (sym has.part_is)
+        (subst (λ (ps : List ℕ). HoldsAt files_of schema part (map file.Column ps) rows) (sym has.places_are) holds))
 
-    pub given_more : (new : Reading F) (block : Grid) (more : List Row) → GivesGranule files_of r new block → more ≡ given ++ block.rows → HasGiven files_of part places chosen new more
+    pub given_more : (new : Reading F) (block : Grid) (more : List Row) → GivesGranule files_of r new block → more ≡ given ++ block.rows → HasGiven files_of schema part places chosen new more
     given_more new block more gives is = record {
+      schema_is = ap (λ (x : Reading F). x.schema) gives.rest ∙ has.schema_is;
       part_is = ap (λ (x : Reading F). x.part) gives.rest ∙ has.part_is;
       places_are = ap (λ (x : Reading F). x.places) gives.rest ∙ has.places_are;
       among = given_among files_of r new block chosen gives has.among;
-      rows = λ schema rows holds.
+      rows = λ rows holds.
           ap (λ (l : List Row). l ++ rows_left new rows) is ∙ append_assoc given block.rows (rows_left new rows)
-          ∙ ap (λ (l : List Row). given ++ l) (sym (given_parted files_of r new block gives schema rows (given_holds schema rows holds)))
-          ∙ has.rows schema rows holds;
+          ∙ ap (λ (l : List Row). given ++ l) (sym (given_parted files_of r new block gives rows (given_holds rows holds)))
+          ∙ has.rows rows holds;
       count = omega (arith, ap length is, length-append given block.rows, count_parted files_of r new block gives, has.count);
     }
 
     pub given_fewer : (new : Reading F) (block : Grid) → GivesGranule files_of r new block → count_left new < count_left r
     given_fewer new block gives = omega (arith, count_parted files_of r new block gives, gives.count, gives.first.some)
 
-    pub given_all : count_left r ≡ 0 → (schema : Schema) (rows : List Row) → HoldsAt files_of schema part (map file.Column places) rows → given ≡ map (selected places) (chosen_of part.loaded.schema.granularity chosen rows)
-    given_all none schema rows holds =
-        sym (append-nil given) ∙ ap (λ (l : List Row). given ++ l) (sym (next_leaves files_of r r None (refl, none) schema rows (given_holds schema rows holds)))
-        ∙ has.rows schema rows holds
+    pub given_all : count_left r ≡ 0 → (rows : List Row) → HoldsAt files_of schema part (map file.Column places) rows → given ≡ map (selected places) (chosen_of part.loaded.schema.granularity chosen rows)
+    given_all none rows holds =
+        sym (append-nil given) ∙ ap (λ (l : List Row). given ++ l) (sym (next_leaves files_of r r None (refl, none) rows (given_holds rows holds)))
+        ∙ has.rows rows holds
 
     -- what a fault says of granules that are left it says of chosen ones
-    pub given_explained : (why : PartFault) → ExplainsAt (λ number t. ExplainsLeft (column_in files_of r.part number) r.left t) (column_types r.part.loaded.schema) r.places why
-        → ExplainsAt (λ number t. ExplainsChosen (column_in files_of part number) chosen t) (column_types part.loaded.schema) places why
+    pub given_explained : (why : PartFault) → ExplainsAt (λ number t. ExplainsLeft (column_in files_of r.part number) r.left t) (column_types r.schema) r.places why → ExplainsAt (λ number t. ExplainsChosen (column_in files_of part number) chosen t) (column_types schema) places why
     given_explained why e =
-        chosen_explained files_of part places (column_types part.loaded.schema) r.left chosen why has.among
-        (subst (λ (ps : List ℕ). ExplainsAt (λ number t. ExplainsLeft (column_in files_of part number) r.left t) (column_types part.loaded.schema) ps why) has.places_are
-        (subst (λ (p : Part F). ExplainsAt (λ number t. ExplainsLeft (column_in files_of p number) r.left t) (column_types p.loaded.schema) r.places why) has.part_is e))
+        chosen_explained files_of part places (column_types schema) r.left chosen why has.among
+        (subst (λ (ps : List ℕ). ExplainsAt (λ number t. ExplainsLeft (column_in files_of part number) r.left t) (column_types schema) ps why) has.places_are
+        (subst (λ (t : Schema). ExplainsAt (λ number u. ExplainsLeft (column_in files_of part number) r.left u) (column_types t) r.places why) has.schema_is
+        (subst (λ (p : Part F). ExplainsAt (λ number t. ExplainsLeft (column_in files_of p number) r.left t) (column_types r.schema) r.places why) has.part_is e)))
+
+-- what is held by a table's schema is held by that which is kept of the part
+pub own_schema : {F : Type 0} (files_of : F → Option Files) (schema : Schema) (part : Part F) (places : List ℕ) (rows : List Row) → HoldsAt files_of schema part (map file.Column places) rows → HoldsAt files_of part.loaded.schema part (map file.Column places) rows
+own_schema files_of schema part places rows holds = subst (λ (t : Schema). HoldsAt files_of t part (map file.Column places) rows) (sym (ap (λ (l : Loaded). l.schema) holds.loaded_is)) holds

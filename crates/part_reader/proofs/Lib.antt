@@ -16,10 +16,14 @@ pub mod KeptColumns
 pub mod LeftGranules
 pub mod LongerFiles
 pub mod MarkedValues
+pub mod MetColumns
+pub mod MetLeft
+pub mod MetValues
 pub mod NumberMarks
 pub mod Opened
 pub mod PickedValues
 pub mod SameLists
+pub mod SiftedRows
 pub mod SoundRows
 pub use Rattle.part_damage.proofs.DigestFilePieces
 pub use Rattle.part_damage.proofs.PartWriterContents

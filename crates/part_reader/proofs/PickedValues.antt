@@ -35,7 +35,7 @@ use Rattle.part_reader.proofs.Holding.{columns_held}
 -- ---- masks
 
 -- how many items of a list a mask is true at depends on how many there are
-where_length : {X Y : Type 0} (mask : List Bool) (xs : List X) (ys : List Y) → length xs ≡ length ys → length (where_true mask xs) ≡ length (where_true mask ys)
+pub where_length : {X Y : Type 0} (mask : List Bool) (xs : List X) (ys : List Y) → length xs ≡ length ys → length (where_true mask xs) ≡ length (where_true mask ys)
 where_length [] xs ys even = refl
 where_length (b ∷ mask) [] [] even = refl
 where_length (b ∷ mask) [] (y ∷ ys) even = absurd (omega (arith, even))
@@ -84,7 +84,7 @@ module _ (c : PartColumn) (chosen : List Bool) where
       }
 
   -- the same of a run that may be empty
-  picks_added : (run : Run) (done own : List Bool) (old now new : Cells) → GainsPicked c (take run.first chosen) done old now → IsPickAdded c run own now new → IsChosenRun chosen run → length done ≡ chosen_count size (take run.first chosen) c.loaded.manifest.rows → length own ≡ rows_in c.loaded run
+  pub picks_added : (run : Run) (done own : List Bool) (old now new : Cells) → GainsPicked c (take run.first chosen) done old now → IsPickAdded c run own now new → IsChosenRun chosen run → length done ≡ chosen_count size (take run.first chosen) c.loaded.manifest.rows → length own ≡ rows_in c.loaded run
       → GainsPicked c (take (run.first + run.count) chosen) (done ++ own) old new
   picks_added run done own old now new before (inr read) is done_is own_is = picks_run run done own old now new before read is done_is own_is
   picks_added run done own old now new before (inl empty) is done_is own_is =

@@ -8,6 +8,7 @@ pub mod Granules
 pub mod Parts
 pub mod Picks
 pub mod Readings
+pub mod Sieves
 pub mod Sound
 pub use Rattle.part_damage.specs.column_file
 pub use Rattle.part_damage.specs.digest_file

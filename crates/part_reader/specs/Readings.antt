@@ -50,8 +50,9 @@ pub record IsFirstLeft (loaded : Loaded) (left : List Bool) (granule : ℕ) : Ty
   pub some : 0 < rows_in loaded (lone granule)
   pub none_before : chosen_count loaded.schema.granularity (take granule left) loaded.manifest.rows ≡ 0
 
--- a part that is read: the columns at which places are wanted of it, and which of its granules are still to come
+-- a part of a table that is read: the columns at which places are wanted of it, and which of its granules are still to come
 pub record Reading (F : Type 0) : Type 0 where
+  pub schema : Schema
   pub part : Part F
   pub places : List ℕ
   pub left : List Bool
@@ -77,8 +78,8 @@ pub record GivesGranule {F : Type 0} (files_of : F → Option Files) (old new : 
   pub first : IsFirstLeft old.part.loaded old.left granule
   pub rest : new ≡ past granule old
   pub count : length given.rows ≡ rows_in old.part.loaded (lone granule)
-  pub types : given.types ≡ filter_map (slice_get (column_types old.part.loaded.schema)) old.places
-  pub rows : (schema : Schema) (rows : List Row) → HoldsAt files_of schema old.part (map file.Column old.places) rows
+  pub types : given.types ≡ filter_map (slice_get (column_types old.schema)) old.places
+  pub rows : (rows : List Row) → HoldsAt files_of old.schema old.part (map file.Column old.places) rows
       → given.rows ≡ map (selected old.places) (granule_items old.part.loaded.schema.granularity granule rows)
 
 -- the next granule is given; or there is none that has any row, and nothing changes

@@ -109,7 +109,8 @@ pub fn read_granules<R: Arm>(
     // What the arm is then, and its count of faults.
     ensures arm { LeavesArm R.Arm arm.old arm.new (IsErrOf result PartFault.Fault) }
 {
-    let Ok(mut reader) = PartRows::new(alloc, part, chosen, places, AHEAD) else {
+    let Ok(mut reader) = PartRows::new(alloc, &part.loaded.schema, part, chosen, places, AHEAD)
+    else {
         return Err(PartFault::NoMemory);
     };
     let mut rows = Vec::new(alloc);
@@ -161,6 +162,7 @@ pub fn read_granule<R: Arm>(
     };
     let none: [bool; 0] = [];
     let source = Source {
+        schema: &part.loaded.schema,
         part,
         chosen: &none,
         most: 0,

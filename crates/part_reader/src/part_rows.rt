@@ -5,7 +5,6 @@ ghost use Rattle.part_damage.specs.column_file.Marks.{granules};
 ghost use Rattle.mt_outside.specs.Files.{Files};
 ghost use Rattle.mt_outside.specs.Leaves.{LeavesArm};
 ghost use Rattle.mt_base.specs.declared.name.FileId.TheVariants as file;
-ghost use Rattle.mt_values.specs.declared.schema.Schema.{Schema};
 ghost use Rattle.mt_values.specs.Printing.{selected};
 ghost use Rattle.mt_values.specs.Schemas.{column_types};
 ghost use Rattle.mt_values.specs.Values.{Row};
@@ -22,13 +21,13 @@ use crate::reading::{Part, PartFault};
 use crate::runs::granule_rows;
 use mt_base::NoMemory;
 use mt_outside::{Arm, Dir};
-use mt_values::{Block, ColumnData};
+use mt_values::{Block, ColumnData, Schema};
 use part_damage::part_writer::Loaded;
 use std::alloc::Global;
 use std::marker::Model;
 
-/// A part that is read granule by granule. Contracts see the part, the places of the columns that are wanted, and which granules are
-/// still to come.
+/// A part that is read granule by granule. Contracts see the table's columns, the part, the places of the columns that are wanted, and
+/// which granules are still to come.
 ///
 /// Of each column it keeps bytes that were read ahead, no more than it was told, and no row that was given.
 #[derive(Drop)]
@@ -49,36 +48,47 @@ impl<'a, F: Dir> Model for PartRows<'a, F> {
     ghost use Rattle.part_reader.specs.Ahead.{AreAhead};
 
     ghost view = { λ r. record {
+      schema = r.source.schema.now;
       part = r.source.part.now;
       places = r.places.now;
       left = from_granule r.at r.source.chosen.now;
     } };
 
     ghost invariant = { λ r. (r.at ≤ length r.source.chosen.now)
-        × All (λ place. place < length r.source.part.now.loaded.schema.columns) r.places.now
+        × All (λ place. place < length r.source.schema.now.columns) r.places.now
         × AreAhead (F.files r.source.part.now.dir) r.source.most r.places.now r.aheads.items };
 }
 
 impl<'a, F: Dir> PartRows<'a, F> {
-    /// The rows of the chosen granules of a part, of each the values of the columns at these places, counted from 0. A place may come
-    /// twice. Nothing is read yet. Of each column `most` bytes are read ahead and kept at most: whoever opens many readers divides
-    /// among them what there is. A granule that has more bytes of a column is read by itself, and they are not kept.
+    /// The rows of the chosen granules of a part of a table, of each the values of the table's columns at these places, counted from 0.
+    /// A place may come twice. Nothing is read yet. Of each column `most` bytes are read ahead and kept at most: whoever opens many
+    /// readers divides among them what there is. A granule that has more bytes of a column is read by itself, and they are not kept.
     ///
     /// `NoMemory` where an allocation failed.
     pub fn new(
         alloc: Global,
+        schema: &'a Schema,
         part: &'a Part<F>,
         chosen: &'a [bool],
         places: &'a [u32],
         most: u64,
     ) -> Result<PartRows<'a, F>, NoMemory>
-        requires { All (λ place. place < length part.now.loaded.schema.columns) places.now }
-        ensures { IfOk result
-            (λ r. r ≡ record { part = part.now; places = places.now; left = chosen.now }) }
+        requires { All (λ place. place < length schema.now.columns) places.now }
+        ensures { IfOk result (λ r. r ≡ record {
+          schema = schema.now;
+          part = part.now;
+          places = places.now;
+          left = chosen.now;
+        }) }
     {
         let aheads = none_ahead(alloc, places.len())?;
         Ok(PartRows {
-            source: Source { part, chosen, most },
+            source: Source {
+                schema,
+                part,
+                chosen,
+                most,
+            },
             places,
             at: 0,
             aheads,
@@ -98,17 +108,17 @@ impl<'a, F: Dir> PartRows<'a, F> {
     ) -> Result<Option<Block>, PartFault>
         // What is given, and what is left.
         ensures gives { IfOk result (GivesNext F.files self.old self.new) }
-        ensures rows { (schema : Schema) (rows : List Row)
-            → HoldsAt F.files schema self.old.part (map file.Column self.old.places) rows
+        ensures rows { (rows : List Row)
+            → HoldsAt F.files self.old.schema self.old.part (map file.Column self.old.places) rows
             → IfOk result (LeavesRows (rows_left self.old rows) (rows_left self.new rows)) }
 
         // What a fault says.
-        ensures sound { (schema : Schema) (rows : List Row)
-            → HoldsAt F.files schema self.old.part (map file.Column self.old.places) rows
+        ensures sound { (rows : List Row)
+            → HoldsAt F.files self.old.schema self.old.part (map file.Column self.old.places) rows
             → IfErr result IsNoDamage }
         ensures damaged { IfErr result (ExplainsAt
             (λ number t. ExplainsLeft (column_in F.files self.old.part number) self.old.left t)
-            (column_types self.old.part.loaded.schema) self.old.places) }
+            (column_types self.old.schema) self.old.places) }
 
         // What the arm is then, and its count of faults.
         ensures arm { LeavesArm R.Arm arm.old arm.new (IsErrOf result PartFault.Fault) }
@@ -144,7 +154,7 @@ pub fn none_ahead(alloc: Global, columns: usize) -> Result<Vec<Ahead>, NoMemory>
 }
 
 /// The first of the chosen granules from one on that has any row.
-fn first_left(loaded: &Loaded, chosen: &[bool], from: usize) -> Option<usize>
+pub fn first_left(loaded: &Loaded, chosen: &[bool], from: usize) -> Option<usize>
     requires { from ≤ length chosen.now }
     ensures first { MatchOption result (chosen_count loaded.now.schema.granularity
         (from_granule from chosen.now) loaded.now.manifest.rows ≡ 0)
@@ -173,32 +183,32 @@ pub fn read_block<R: Arm>(
     granule: usize,
     aheads: &mut [Ahead],
 ) -> Result<Block, PartFault>
-    requires places { All (λ place. place < length source.now.part.now.loaded.schema.columns)
+    requires places { All (λ place. place < length source.now.schema.now.columns)
         places.now }
     requires granule { granule + 1 < 2 ^ 64 }
     requires ahead { AreAhead (R.Dir.files source.now.part.now.dir) source.now.most places.now
         aheads.old }
 
     // What is read.
-    ensures rows { (schema : Schema) (rows : List Row)
-        → HoldsAt R.Dir.files schema source.now.part.now (map file.Column places.now) rows
+    ensures rows { (rows : List Row) → HoldsAt R.Dir.files source.now.schema.now
+        source.now.part.now (map file.Column places.now) rows
         → IfOk result (λ b. b.rows ≡ map (selected places.now) (granule_items
         source.now.part.now.loaded.schema.granularity granule rows)) }
     ensures count { IfOk result
         (λ b. length b.rows ≡ rows_in source.now.part.now.loaded (lone granule)) }
     ensures types { IfOk result (λ b. b.types ≡ filter_map
-        (slice_get (column_types source.now.part.now.loaded.schema)) places.now) }
+        (slice_get (column_types source.now.schema.now)) places.now) }
     ensures ahead { AreAhead (R.Dir.files source.now.part.now.dir) source.now.most places.now
         aheads.new }
 
     // What a fault says.
-    ensures sound { (schema : Schema) (rows : List Row)
-        → HoldsAt R.Dir.files schema source.now.part.now (map file.Column places.now) rows
+    ensures sound { (rows : List Row) → HoldsAt R.Dir.files source.now.schema.now
+        source.now.part.now (map file.Column places.now) rows
         → granule < granules source.now.part.now.loaded.schema.granularity
         source.now.part.now.loaded.manifest.rows → IfErr result IsNoDamage }
     ensures damaged { IfErr result (ExplainsAt
         (λ number t. ExplainsRun (column_in R.Dir.files source.now.part.now number) (lone granule) t)
-        (column_types source.now.part.now.loaded.schema) places.now) }
+        (column_types source.now.schema.now) places.now) }
 
     // What the arm is then, and its count of faults.
     ensures arm { LeavesArm R.Arm arm.old arm.new (IsErrOf result PartFault.Fault) }
@@ -212,7 +222,7 @@ pub fn read_block<R: Arm>(
 /// first.
 ///
 /// The errors are those of `add_run`.
-fn read_granule_columns<R: Arm>(
+pub fn read_granule_columns<R: Arm>(
     alloc: Global,
     arm: &mut R,
     source: &Source<R::Dir>,
@@ -220,7 +230,7 @@ fn read_granule_columns<R: Arm>(
     granule: usize,
     aheads: &mut [Ahead],
 ) -> Result<Vec<ColumnData>, PartFault>
-    requires places { All (λ place. place < length source.now.part.now.loaded.schema.columns)
+    requires places { All (λ place. place < length source.now.schema.now.columns)
         places.now }
     requires granule { granule + 1 < 2 ^ 64 }
     requires ahead { AreAhead (R.Dir.files source.now.part.now.dir) source.now.most places.now
@@ -229,24 +239,23 @@ fn read_granule_columns<R: Arm>(
     // What is read.
     ensures values { IfOk result (λ v. AreGranuleColumns
         (λ number. column_in R.Dir.files source.now.part.now number) granule
-        (column_types source.now.part.now.loaded.schema) places.now v.items) }
+        (column_types source.now.schema.now) places.now v.items) }
     ensures ahead { AreAhead (R.Dir.files source.now.part.now.dir) source.now.most places.now
         aheads.new }
 
     // What a fault says.
-    ensures sound { (schema : Schema) (rows : List Row)
-        → HoldsAt R.Dir.files schema source.now.part.now (map file.Column places.now) rows
+    ensures sound { (rows : List Row) → HoldsAt R.Dir.files source.now.schema.now
+        source.now.part.now (map file.Column places.now) rows
         → granule < granules source.now.part.now.loaded.schema.granularity
         source.now.part.now.loaded.manifest.rows → IfErr result IsNoDamage }
     ensures damaged { IfErr result (ExplainsAt
         (λ number t. ExplainsRun (column_in R.Dir.files source.now.part.now number) (lone granule) t)
-        (column_types source.now.part.now.loaded.schema) places.now) }
+        (column_types source.now.schema.now) places.now) }
 
     // What the arm is then, and its count of faults.
     ensures arm { LeavesArm R.Arm arm.old arm.new (IsErrOf result PartFault.Fault) }
 {
-    let schema = &source.part.loaded.schema;
-    let Ok(mut columns) = empty_columns(alloc, schema, places) else {
+    let Ok(mut columns) = empty_columns(alloc, source.schema, places) else {
         return Err(PartFault::NoMemory);
     };
     add_columns(alloc, arm, source, places, granule, aheads, &mut columns)?;

@@ -85,7 +85,7 @@ pub fn add_granules_where<R: Arm>(
 /// of the run whether it is wanted.
 ///
 /// The errors are those of `add_run`.
-fn add_run_where<R: Arm>(
+pub fn add_run_where<R: Arm>(
     alloc: Global,
     arm: &mut R,
     part: &Part<R::Dir>,

@@ -21,4 +21,5 @@ pub use part_out::{Broken, PartOut};
 pub use primary_marks;
 pub use primary_marks::{column_file, predicate};
 pub use skip_index;
-pub use writing::{SealedPart, write_part};
+pub use stage_dir;
+pub use writing::{SealedPart, finish_part, write_part};

@@ -30,8 +30,8 @@ use stage_dir::{Open, Unsealed, append_file, seal};
 use std::alloc::Global;
 use std::marker::Model;
 
-/// A part that is being written. It can't be let go, as its stage can't: it is finished or given up. Contracts see its stage, and what is kept of the
-/// rows that it has; which these are is said by `HasRows`.
+/// A part that is being written. It must be finished or given up, since its stage must be given back. Contracts see its stage, and what is
+/// kept of the rows that it has; which these are is said by `HasRows`.
 pub struct PartOut<R: Arm> {
     alloc: Global,
     stage: Open<R::Stage>,
@@ -89,20 +89,20 @@ impl<R: Arm> PartOut<R> {
     ///
     /// `Fault` only where the stage's count rose in this call, `NoMemory` where an allocation failed, or 64 bits can't count rows or bytes.
     /// After an error the part can only be given up.
-    pub fn push(&mut self, row: Row) -> Result<(), DiskError>
+    pub fn push(&mut self, row: &Row) -> Result<(), DiskError>
         requires whole { IsWhole self.old }
-        requires typed { types_of row ≡ column_types self.old.grown.schema }
+        requires typed { types_of row.now ≡ column_types self.old.grown.schema }
 
         // What it has then.
         ensures rows { (rows : List Row) → HasRows self.old rows
-            → OnOk result (HasRows self.new (rows ++ row ∷ [])) }
+            → OnOk result (HasRows self.new (rows ++ row.now ∷ [])) }
         ensures schema { OnOk result (self.new.grown.schema ≡ self.old.grown.schema) }
         ensures told { OnOk result
             (is_some self.new.stage.files ≡ is_some self.old.stage.files) }
         ensures cause { HasDiskCause self.old.stage.failed self.new.stage.failed result }
     {
         self.make_room()?;
-        self.grown.add_row(&row)?;
+        self.grown.add_row(row)?;
         Ok(())
     }
 
@@ -140,8 +140,9 @@ impl<R: Arm> PartOut<R> {
         requires { IsWhole self }
 
         // What is sealed.
-        ensures files { (rows : List Row) → HasRows self rows → IfOk result (λ s. s.sealed.files
-            ≡ option_map (λ _. all_synced (files_of_part self.grown.schema rows)) self.stage.files) }
+        ensures files { (rows : List Row) → HasRows self rows → IfOk result (λ s.
+            s.sealed.files ≡ option_map
+            (λ _. all_synced (files_of_part self.grown.schema rows)) self.stage.files) }
         ensures loaded { (rows : List Row) → HasRows self rows → IfOk result
             (λ s. s.loaded ≡ loaded_of self.grown.schema rows) }
         ensures failed { IfOk result (λ s. s.sealed.failed ≡ self.stage.failed) }

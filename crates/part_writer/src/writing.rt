@@ -19,7 +19,7 @@ use mt_values::{Block, Schema};
 use stage_dir::Sealed;
 use std::alloc::Global;
 
-/// The sealed files of a part, and what is kept of them in memory. It can't be let go, as its stage can't.
+/// The sealed files of a part, and what is kept of them in memory. Its stage must be given back.
 pub struct SealedPart<S: Stage> {
     pub sealed: Sealed<S>,
     pub loaded: Loaded,
@@ -73,7 +73,7 @@ pub fn write_part<R: Arm>(
 /// Finishes a part.
 ///
 /// `Fault` only where the arm's count rose in this call. After an error the stage was given back to the arm.
-fn finish_part<R: Arm>(arm: &mut R, out: PartOut<R>) -> Result<SealedPart<R::Stage>, DiskError>
+pub fn finish_part<R: Arm>(arm: &mut R, out: PartOut<R>) -> Result<SealedPart<R::Stage>, DiskError>
     requires { IsWhole out }
 
     // What is sealed.

@@ -6,7 +6,7 @@ use Rattle.part_reader.proofs.granules.read_granules.Given as goal
 
 abbrev pub invariant-given : goal.invariant-given
 invariant-given g l = record {
-  given : HasGiven g.R.Dir.Dir.files l.fn.part l.fn.places l.fn.chosen l.reader l.rows.items;
+  given : HasGiven g.R.Dir.Dir.files l.fn.part.loaded.schema l.fn.part l.fn.places l.fn.chosen l.reader l.rows.items;
   arm : LeavesArm g.R.Arm l.fn.arm l.arm ⊥;
 }
 

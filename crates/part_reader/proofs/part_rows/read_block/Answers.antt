@@ -1,8 +1,7 @@
-use Rattle.std.proofs.Common.{◌≡◌, ◌∙◌, All, ap, sym, subst, length}
+use Rattle.std.proofs.Common.{◌≡◌, ◌∙◌, All, ap, refl, sym, subst, length}
 use Rattle.mt_values.specs.Grid.{Cells, Grid, rows_of}
 use Rattle.mt_values.specs.Schemas.{column_types}
 use Rattle.mt_values.proofs.Grids.{length-rows_of}
-use Rattle.part_damage.specs.part_writer.declared.loaded.Loaded.{Loaded}
 use Rattle.part_reader.specs.Faults.{IsNoDamage}
 use Rattle.part_reader.proofs.Gaining.{handed_on}
 use Rattle.part_reader.proofs.LeftGranules.{columns_even, columns_rows, columns_types}
@@ -14,14 +13,14 @@ of_columns-requires-clause-even g c =
     let part = c.args.source.now.part.now in
     let columns = c.in_ok-columns.columns.items in
     subst (λ n. All (λ (x : Cells). length x.values ≡ n) columns) (sym c.granule_rows-rows.ensures.rows)
-    (columns_even g.R.Dir.Dir.files part c.args.granule (column_types part.loaded.schema) c.args.places.now columns c.in_ok-columns.ensures.values)
+    (columns_even g.R.Dir.Dir.files part c.args.granule (column_types c.args.source.now.schema.now) c.args.places.now columns c.in_ok-columns.ensures.values)
 
 pub returns-clause-rows : goal.returns-clause-rows
-returns-clause-rows g c = λ schema rows holds.
+returns-clause-rows g c = λ rows holds.
     let part = c.args.source.now.part.now in
     let columns = c.in_ok-columns.columns.items in
     ap (λ (b : Grid). b.rows) c.of_columns.ensures ∙ ap (rows_of columns) c.granule_rows-rows.ensures.rows
-    ∙ columns_rows g.R.Dir.Dir.files part c.args.granule (column_types part.loaded.schema) c.args.places.now columns c.in_ok-columns.ensures.values schema rows holds (ap (λ (l : Loaded). column_types l.schema) holds.loaded_is)
+    ∙ columns_rows g.R.Dir.Dir.files part c.args.granule (column_types c.args.source.now.schema.now) c.args.places.now columns c.in_ok-columns.ensures.values c.args.source.now.schema.now rows holds refl
 
 pub returns-clause-count : goal.returns-clause-count
 returns-clause-count g c =
@@ -30,8 +29,8 @@ returns-clause-count g c =
 pub returns-clause-types : goal.returns-clause-types
 returns-clause-types g c =
     let part = c.args.source.now.part.now in
-    ap (λ (b : Grid). b.types) c.of_columns.ensures ∙ columns_types g.R.Dir.Dir.files part c.args.granule (column_types part.loaded.schema) c.args.places.now c.in_ok-columns.columns.items c.in_ok-columns.ensures.values
+    ap (λ (b : Grid). b.types) c.of_columns.ensures ∙ columns_types g.R.Dir.Dir.files part c.args.granule (column_types c.args.source.now.schema.now) c.args.places.now c.in_ok-columns.columns.items c.in_ok-columns.ensures.values
 
 pub returns-in_err-columns-clause-sound : goal.returns-in_err-columns-clause-sound
-returns-in_err-columns-clause-sound g c = λ schema rows holds within.
-    handed_on IsNoDamage c.from_residual.result c.in_err-columns.field-0.0 c.from_residual.ensures.1 (c.in_err-columns.ensures.sound schema rows holds within)
+returns-in_err-columns-clause-sound g c = λ rows holds within.
+    handed_on IsNoDamage c.from_residual.result c.in_err-columns.field-0.0 c.from_residual.ensures.1 (c.in_err-columns.ensures.sound rows holds within)

@@ -1,9 +1,8 @@
-use Rattle.std.proofs.Common.{◌≡◌, ◌<◌, ◌∙◌, All, ap, sym, subst, filter_map, length, map, slice_get}
+use Rattle.std.proofs.Common.{◌≡◌, ◌<◌, ◌∙◌, All, ap, sym, subst, length, map}
 use Rattle.std.proofs.lemmas.List.{length-map}
 use Rattle.mt_values.specs.declared.schema.Column.{Column}
 use Rattle.mt_values.specs.Grid.{Cells}
 use Rattle.mt_values.specs.Schemas.{column_types}
-use Rattle.part_damage.specs.part_writer.declared.loaded.Loaded.{Loaded}
 use Rattle.part_reader.specs.Columns.{AreEach}
 use Rattle.part_reader.specs.Faults.{ExplainsAt, IsNoDamage}
 use Rattle.part_reader.specs.Granules.{ExplainsRun, GainsChosen, column_in}
@@ -29,17 +28,17 @@ returns-clause-values g c =
     }
 
 pub returns-in_err-add_columns-clause-sound : goal.returns-in_err-add_columns-clause-sound
-returns-in_err-add_columns-clause-sound g c = λ schema rows holds within.
+returns-in_err-add_columns-clause-sound g c = λ rows holds within.
     let part = c.args.source.now.part.now in
     let places = c.args.places.now in
-    let typed = ap (map (λ (x : Cells). x.col_type)) c.deref_mut.ensures.value ∙ c.in-Ok.ensures.types ∙ ap (λ (l : Loaded). filter_map (slice_get (column_types l.schema)) places) holds.loaded_is in
+    let typed = ap (map (λ (x : Cells). x.col_type)) c.deref_mut.ensures.value ∙ c.in-Ok.ensures.types in
     handed_on IsNoDamage c.from_residual.result c.in_err-add_columns.field-0.0 c.from_residual.ensures.1
-    (lone_sound g.R.Dir.Dir.files schema part places rows holds c.args.granule c.deref_mut.result.now c.in_err-add_columns.field-0.0 within typed c.in_err-add_columns.ensures.damaged)
+    (lone_sound g.R.Dir.Dir.files c.args.source.now.schema.now part places rows holds c.args.granule c.deref_mut.result.now c.in_err-add_columns.field-0.0 within typed c.in_err-add_columns.ensures.damaged)
 
 pub returns-in_err-add_columns-clause-damaged : goal.returns-in_err-add_columns-clause-damaged
 returns-in_err-add_columns-clause-damaged g c =
     let part = c.args.source.now.part.now in
-    let schema = part.loaded.schema in
+    let schema = c.args.source.now.schema.now in
     let places = c.args.places.now in
     let types = column_types schema in
     let typed = ap (map (λ (x : Cells). x.col_type)) c.deref_mut.ensures.value ∙ c.in-Ok.ensures.types in

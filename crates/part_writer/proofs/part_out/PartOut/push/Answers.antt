@@ -21,6 +21,6 @@ returns-clause-rows g c = λ rows has.
     let out = c.make_room.new.self in
     let new : Growing = record { stage = c.self.inside.stage; grown = c.add_row.new.self } in
     let grown = ap (λ (o : Growing). o.grown) c.self.view_is in
-    rows_added out new rows (c.args.row ∷ []) c.in_ok-make_room.field-0 (c.in_ok-make_room.ensures.rows rows has) (c.in_ok-add_row.ensures.schema ∙ ap (λ (x : Grown). x.schema) grown) (ap (λ (o : Growing). o.stage) c.self.view_is)
+    rows_added out new rows (c.args.row.now ∷ []) c.in_ok-make_room.field-0 (c.in_ok-make_room.ensures.rows rows has) (c.in_ok-add_row.ensures.schema ∙ ap (λ (x : Grown). x.schema) grown) (ap (λ (o : Growing). o.stage) c.self.view_is)
     (λ written keyed pending keeps. c.in_ok-add_row.ensures.rows written keyed pending (subst (λ (x : Grown). KeepsRows x written keyed pending) (sym grown) keeps))
     (omega arith) (omega (arith, c.in_ok-make_room.ensures.some))
