@@ -22,7 +22,7 @@ use Rattle.row_merge.proofs.Sorted.{Up, back_is, both_is_equal, equal_itself, eq
 no_order : true ≡ false → ⊥
 no_order e = cc
 
-equal_is : (r : Ordering) → is_eq r ≡ true → r ≡ Equal
+pub equal_is : (r : Ordering) → is_eq r ≡ true → r ≡ Equal
 equal_is Less h = absurd (no_order (sym h))
 equal_is Equal h = refl
 equal_is Greater h = absurd (no_order (sym h))
@@ -39,7 +39,7 @@ module _ (places : List ℕ) where
   o = key_total places
 
   -- what has a row's key stands as the row does
-  same_key : (a b r : Row) → key_of places a ≡ key_of places b → cmp r a ≡ cmp r b
+  pub same_key : (a b r : Row) → key_of places a ≡ key_of places b → cmp r a ≡ cmp r b
   same_key a b r e = ap (λ (key : List Value). slice_cmp value_cmp (key_of places r) key) e
 
   same_key_left : (a b r : Row) → key_of places a ≡ key_of places b → cmp a r ≡ cmp b r
@@ -73,10 +73,6 @@ module _ (places : List ℕ) where
   group_has_key first later up =
       All-weaker (λ r. cmp first r ≡ Equal) (λ r. key_of places r ≡ key_of places first) (λ r e. sym (key_exact places first r e)) (group first later) (group_alike first later up)
 
-  parts_of : (p : Row → Bool) (first : Row) (later : List Row) → filter p (first ∷ later) ≡ filter p (group first later) ++ filter p (others first later)
-  parts_of p first later =
-      ap (λ rows. filter p (first ∷ rows)) (sym (take-append-drop (how_many cmp first later) later)) ∙ filter-append p (group first later) (others first later)
-
   module _ (run : List Row → List Row → Type 0) where
     none_left : (rows out : List Row) → rows ≡ [] → Leaves run rows out → out ≡ []
     none_left [] out none h = h
@@ -102,48 +98,55 @@ module _ (places : List ℕ) where
     pub fold_none : IsFoldOf places run [] []
     fold_none = record { sorted = sorted_of cmp o [] tt; folded = λ row. refl }
 
-    -- what one fold leaves of the first key's rows goes before what folds leave of the others
-    pub fold_goes_on : (first : Row) (later left out : List Row) → Up cmp (first ∷ later) → run (group first later) left → All (λ r. key_of places r ≡ key_of places first) left
-        → IsFoldOf places run (others first later) out → IsFoldOf places run (first ∷ later) (left ++ out)
-    fold_goes_on first later left out up ran key h = record { sorted = sorted_of cmp o (left ++ out) (up_append cmp o left out (up_of_one_key first left key) (up_of cmp o out h.sorted) between); folded = folded }
+    -- what one fold leaves of rows of one key goes before what folds leave of rows that come after them
+    pub fold_ends : (first : Row) (some later left out : List Row) → All (λ r. key_of places r ≡ key_of places first) (first ∷ some) → All (λ r. cmp first r ≡ Less) later
+        → run (first ∷ some) left → All (λ r. key_of places r ≡ key_of places first) left
+        → IsFoldOf places run later out → IsFoldOf places run ((first ∷ some) ++ later) (left ++ out)
+    fold_ends first some later left out own after ran key h = record { sorted = sorted_of cmp o (left ++ out) (up_append cmp o left out (up_of_one_key first left key) (up_of cmp o out h.sorted) between); folded = folded }
       where
-        later_after : All (λ r. cmp first r ≡ Less) (others first later)
-        later_after = back_is cmp o first later up.1
-
         out_after : All (λ r. cmp first r ≡ Less) out
-        out_after = left_after first (others first later) out h later_after
+        out_after = left_after first later out h after
 
         between : All (λ x. All (λ y. is_lt (cmp y x) ≡ false) out) left
         between =
             All-weaker (λ r. key_of places r ≡ key_of places first) (λ x. All (λ y. is_lt (cmp y x) ≡ false) out)
             (λ x e. All-weaker (λ y. cmp first y ≡ Less) (λ y. is_lt (cmp y x) ≡ false) (λ y less. ap is_lt (same_key x first y e) ∙ less_is_at_most cmp o first y less) out out_after) left key
 
-        folded : (row : Row) → Leaves run (alike places row (first ∷ later)) (alike places row (left ++ out))
+        folded : (row : Row) → Leaves run (alike places row ((first ∷ some) ++ later)) (alike places row (left ++ out))
         folded row = by (is_eq (cmp row first)) refl
           where
             p : Row → Bool
             p r = is_eq (cmp row r)
 
-            of_group : (b : Bool) → p first ≡ b → All (λ r. p r ≡ b) (group first later)
-            of_group b e = All-weaker (λ r. cmp first r ≡ Equal) (λ r. p r ≡ b) (λ r same. ap is_eq (sym (equal_right cmp o first r row same)) ∙ e) (group first later) (group_alike first later up)
-
-            of_left : (b : Bool) → p first ≡ b → All (λ r. p r ≡ b) left
-            of_left b e = All-weaker (λ r. key_of places r ≡ key_of places first) (λ r. p r ≡ b) (λ r same. ap is_eq (same_key r first row same) ∙ e) left key
+            of_key : (rows : List Row) (b : Bool) → All (λ r. key_of places r ≡ key_of places first) rows → p first ≡ b → All (λ r. p r ≡ b) rows
+            of_key rows b all e = All-weaker (λ r. key_of places r ≡ key_of places first) (λ r. p r ≡ b) (λ r same. ap is_eq (same_key r first row same) ∙ e) rows all
 
             none_of : (rows : List Row) → p first ≡ true → All (λ r. cmp first r ≡ Less) rows → filter p rows ≡ []
-            none_of rows e after = filter_none p rows (All-weaker (λ r. cmp first r ≡ Less) (λ r. p r ≡ false) (λ r less. ap is_eq (o.congr row first r (equal_is (cmp row first) e) ∙ less)) rows after)
+            none_of rows e all = filter_none p rows (All-weaker (λ r. cmp first r ≡ Less) (λ r. p r ≡ false) (λ r less. ap is_eq (o.congr row first r (equal_is (cmp row first) e) ∙ less)) rows all)
 
-            by : (b : Bool) → p first ≡ b → Leaves run (filter p (first ∷ later)) (filter p (left ++ out))
+            by : (b : Bool) → p first ≡ b → Leaves run (filter p ((first ∷ some) ++ later)) (filter p (left ++ out))
             by true e =
-                let rows_are : filter p (first ∷ later) ≡ group first later =
-                parts_of p first later ∙ ap (λ zs. zs ++ filter p (others first later)) (filter_all p (group first later) (of_group true e)) ∙ ap (λ zs. group first later ++ zs) (none_of (others first later) e later_after) ∙ append-nil (group first later) in
+                let rows_are : filter p ((first ∷ some) ++ later) ≡ first ∷ some =
+                filter-append p (first ∷ some) later ∙ ap (λ zs. zs ++ filter p later) (filter_all p (first ∷ some) (of_key (first ∷ some) true own e)) ∙ ap (λ zs. (first ∷ some) ++ zs) (none_of later e after) ∙ append-nil (first ∷ some) in
                 let out_is : filter p (left ++ out) ≡ left =
-                filter-append p left out ∙ ap (λ zs. zs ++ filter p out) (filter_all p left (of_left true e)) ∙ ap (λ zs. left ++ zs) (none_of out e out_after) ∙ append-nil left in
-                subst (λ rows. Leaves run rows (filter p (left ++ out))) (sym rows_are) (subst (run (group first later)) (sym out_is) ran)
+                filter-append p left out ∙ ap (λ zs. zs ++ filter p out) (filter_all p left (of_key left true key e)) ∙ ap (λ zs. left ++ zs) (none_of out e out_after) ∙ append-nil left in
+                subst (λ rows. Leaves run rows (filter p (left ++ out))) (sym rows_are) (subst (run (first ∷ some)) (sym out_is) ran)
             by false e =
-                let rows_are : filter p (first ∷ later) ≡ filter p (others first later) = parts_of p first later ∙ ap (λ zs. zs ++ filter p (others first later)) (filter_none p (group first later) (of_group false e)) in
-                let out_is : filter p (left ++ out) ≡ filter p out = filter-append p left out ∙ ap (λ zs. zs ++ filter p out) (filter_none p left (of_left false e)) in
-                subst (λ rows. Leaves run rows (filter p (left ++ out))) (sym rows_are) (subst (Leaves run (filter p (others first later))) (sym out_is) (h.folded row))
+                let rows_are : filter p ((first ∷ some) ++ later) ≡ filter p later = filter-append p (first ∷ some) later ∙ ap (λ zs. zs ++ filter p later) (filter_none p (first ∷ some) (of_key (first ∷ some) false own e)) in
+                let out_is : filter p (left ++ out) ≡ filter p out = filter-append p left out ∙ ap (λ zs. zs ++ filter p out) (filter_none p left (of_key left false key e)) in
+                subst (λ rows. Leaves run rows (filter p (left ++ out))) (sym rows_are) (subst (Leaves run (filter p later)) (sym out_is) (h.folded row))
+
+    -- the same of the rows of the first key, in rows in order
+    fold_goes_on : (first : Row) (later left out : List Row) → Up cmp (first ∷ later) → run (group first later) left → All (λ r. key_of places r ≡ key_of places first) left
+        → IsFoldOf places run (others first later) out → IsFoldOf places run (first ∷ later) (left ++ out)
+    fold_goes_on first later left out up ran key h =
+        let n = how_many cmp first later in
+        subst (λ rows. IsFoldOf places run (first ∷ rows) (left ++ out)) (take-append-drop n later)
+        (fold_ends first (take n later) (others first later) left out (group_has_key first later up) (back_is cmp o first later up.1) ran key h)
+
+    -- what folds leave of rows they leave of any rows of which those of each key are the same
+    pub fold_same : (rows more out : List Row) → ((row : Row) → alike places row more ≡ alike places row rows) → IsFoldOf places run rows out → IsFoldOf places run more out
+    fold_same rows more out same h = record { sorted = h.sorted; folded = λ row. subst (λ found. Leaves run found (alike places row out)) (sym (same row)) (h.folded row) }
 
     -- the same of rows that are lent, from a place on
     pub keys_go_on : (rows : List (Bor Row)) (at count : ℕ) (first : Bor Row) (left out : List Row) → at < length rows → first ≡ get_or rows at first → IsSorted cmp (rows_of rows)

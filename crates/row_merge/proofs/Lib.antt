@@ -1,17 +1,41 @@
+pub mod Ahead
+pub mod Appending
+pub mod Checked
+pub mod Copying
+pub mod Courses
+pub mod Cursors
+pub mod Explaining
+pub mod Filling
 pub mod Folds
+pub mod Handing
 pub mod HistoryRows
 pub mod Keys
 pub mod Lent
 pub mod Merges
+pub mod Nexts
+pub mod Opening
 pub mod SealedMerges
+pub mod Ranking
+pub mod Readers
+pub mod Refilling
+pub mod Refills
+pub mod Runs
+pub mod SameTypes
 pub mod Sorted
 pub mod TableMerges
 pub mod TableRules
+pub mod Taking
+pub mod TestTables
+pub mod Totals
+pub mod Written
 pub use Rattle.part_reader.proofs.ChosenItems as PartReaderChosenItems
 pub use Rattle.part_reader.proofs.CutRows as PartReaderCutRows
 pub use Rattle.part_reader.proofs.Gaining as PartReaderGaining
 pub use Rattle.part_reader.proofs.Holding as PartReaderHolding
+pub use Rattle.part_reader.proofs.LeftGranules as PartReaderLeftGranules
+pub use Rattle.part_reader.proofs.MetLeft as PartReaderMetLeft
 pub use Rattle.part_reader.proofs.PickedValues as PartReaderPickedValues
+pub use Rattle.part_reader.proofs.SiftedRows as PartReaderSiftedRows
 pub use Rattle.rule_replacing.proofs.RuleLawAggregated
 pub use Rattle.rule_replacing.proofs.RuleLawAllRows
 pub use Rattle.rule_replacing.proofs.RuleLawAlternating

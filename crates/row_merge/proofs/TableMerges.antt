@@ -15,11 +15,13 @@ use Rattle.part_history.specs.mt_model.History.{IsTableSchema}
 use Rattle.part_history.specs.mt_model.Live.{of_key}
 use Rattle.part_history.specs.mt_model.Partial.{Partly, TableRun}
 use Rattle.part_history.proofs.MtModelOwnColumns.{sorting_own}
+use Rattle.part_reader.specs.part_writer.Growing.{Growing}
 use Rattle.rule_replacing.specs.rule_law.TableRows.{IsTableRow}
 use Rattle.rule_replacing.proofs.RuleLawApartColumns.{partition_apart}
 use Rattle.rule_replacing.proofs.RuleLawPartlyRows.{holds_at, partly_keeps}
 use Rattle.rule_replacing.proofs.RuleLawTableRows.{run_partition, run_table}
 use Rattle.row_merge.specs.Merged.{AreMergeable, AreOrdered, ArePartRows, IsFoldOf, IsMergeOf, IsMergedOf, alike, rows_of_all}
+use Rattle.row_merge.specs.Streams.{HasMerged, HasMergedTable}
 use Rattle.row_merge.proofs.Keys.{key_total}
 use Rattle.row_merge.proofs.Merges.{all_of_all}
 use Rattle.row_merge.proofs.Sorted.{equal_itself, none_passes}
@@ -154,3 +156,12 @@ module _ (schema : Schema) (partition : Partition) where
         → (AreMergeable schema takes apart inputs → IsMergeOf schema run inputs out) → All (ArePartRows schema partition) inputs → IsMergedOf schema partition inputs out
     merged_by inputs takes apart run out taken kept same merge parts =
         table_merged inputs out parts (fold_by (sorting_columns schema) run (TableRun schema) same (rows_of_all inputs) out (merge (mergeable inputs takes apart parts taken kept)))
+
+    -- the part that is written has what the table's rule leaves
+    pub merged_table : (places : List ℕ) (run : List Row → List Row → Type 0) (rows : List (List Row)) (out : Growing) → places ≡ sorting_columns schema → ((some left : List Row) → run some left → TableRun schema some left)
+        → All (ArePartRows schema partition) rows → HasMerged places run rows out → HasMergedTable schema partition rows out
+    merged_table places run rows out are same parts m = record {
+      done = m.done;
+      has = m.has;
+      merged = table_merged rows m.done parts (fold_by (sorting_columns schema) run (TableRun schema) same (rows_of_all rows) m.done (subst (λ ps. IsFoldOf ps run (rows_of_all rows) m.done) are m.folds));
+    }

@@ -1,5 +1,11 @@
+pub mod Course
+pub mod Heads
+pub mod Held
 pub mod Merged
 pub mod MergedParts
+pub mod Merging
+pub mod Streams
+pub mod TestTables
 pub use Rattle.part_reader.specs.column_file
 pub use Rattle.part_reader.specs as part_reader
 pub use Rattle.part_set.specs as part_set

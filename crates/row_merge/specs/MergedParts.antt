@@ -1,8 +1,10 @@
 -- Parts that are merged, and the part that is sealed of them (docs/engines.md, "Merges").
-use Rattle.std.specs.Prelude.{◌≡◌, ℕ, List, length, slice_get, Option, Some}
+use Rattle.std.specs.Prelude.{◌≡◌, ◌⊎◌, ℕ, ◌<◌, List, length, slice_get, Option, Some, ⊤}
 use Rattle.std.specs.List.{AllZip, range_with_len}
+use Rattle.mt_base.specs.declared.name.FileId.TheVariants as file
 use Rattle.mt_base.specs.declared.partition.Partition.{Partition}
 use Rattle.mt_values.specs.declared.schema.Schema.{Schema}
+use Rattle.mt_values.specs.declared.value.ColType.{ColType}
 use Rattle.mt_values.specs.Schemas.{column_types}
 use Rattle.mt_values.specs.Values.{Row}
 use Rattle.mt_outside.specs.Files.{Files}
@@ -11,8 +13,12 @@ use Rattle.part_reader.specs.part_writer.declared.loaded.Loaded.{Loaded}
 use Rattle.part_reader.specs.part_writer.PartFiles.{loaded_of}
 use Rattle.part_reader.specs.declared.reading.Part.{Part}
 use Rattle.part_reader.specs.declared.reading.PartFault.{PartFault}
-use Rattle.part_reader.specs.Faults.{ExplainsAt, ExplainsColumn}
+use Rattle.part_reader.specs.declared.reading.PartFault.TheVariants.{Fault, NoMemory, Damaged}
+use Rattle.part_reader.specs.declared.reading.TheConstants.{NO_MARK}
+use Rattle.part_reader.specs.Faults.{ExplainsAt}
+use Rattle.part_reader.specs.Granules.{ExplainsRun, PartColumn, column_in, rows_in}
 use Rattle.part_reader.specs.Parts.{FolderHolds, PartHolds}
+use Rattle.part_reader.specs.Readings.{lone}
 use Rattle.part_set.specs.declared.kept.Kept.{Kept}
 use Rattle.row_merge.specs.Merged.{IsMergedOf}
 
@@ -42,9 +48,33 @@ pub record IsSealedPart (schema : Schema) (sealed : Option Files) (loaded : Load
 abbrev pub column_places : Schema → List ℕ
 column_places schema = range_with_len 0 (length schema.columns)
 
--- what a fault says of a part whose columns are read, each as one of its type: damage is that of a column whose bytes are no spelling of its values (docs/formats.md, "Parts")
+-- the columns of a part have the types of the table's, and its granules the same size
+pub record HasShape (schema own : Schema) : Type 0 where
+  pub types : column_types own ≡ column_types schema
+  pub granularity : own.granularity ≡ schema.granularity
+
+-- what is called the damage of a part of which another table's columns are kept
+abbrev pub other_table : PartFault
+other_table = Damaged file.Manifest 0 NO_MARK NO_MARK
+
+-- of a part the columns of another table are kept
+pub record IsOthers {F : Type 0} (schema : Schema) (part : Part F) (fault : PartFault) : Type 0 where
+  pub other : HasShape schema part.loaded.schema → ⊥
+  pub fault_is : fault ≡ other_table
+
+-- a granule of a column was read that has some row, as one of this type
+pub record ExplainsGranule (c : PartColumn) (t : ColType) (fault : PartFault) : Type 0 where
+  pub granule : ℕ
+  pub some : 0 < rows_in c.loaded (lone granule)
+  pub explained : ExplainsRun c (lone granule) t fault
+
+-- What a fault says of a part whose columns are read granule by granule, each as one of its type: damage is that of a granule whose bytes are no spelling of its values
+-- (docs/formats.md, "Parts").
 abbrev pub ExplainsPart : {F : Type 0} → (F → Option Files) → Schema → Part F → PartFault → Type 0
-ExplainsPart files_of schema part fault = ExplainsAt (ExplainsColumn (files_of part.dir) part.loaded) (column_types schema) (column_places schema) fault
+ExplainsPart files_of schema part Fault = ⊤
+ExplainsPart files_of schema part NoMemory = ⊤
+ExplainsPart files_of schema part (Damaged f place wanted found) =
+    IsOthers schema part (Damaged f place wanted found) ⊎ ExplainsAt (λ number t. ExplainsGranule (column_in files_of part number) t) (column_types schema) (column_places schema) (Damaged f place wanted found)
 
 -- what a fault says of one of the parts, by its name (docs/formats.md, "Parts")
 pub record ExplainsMerge {F : Type 0} (files_of : F → Option Files) (schema : Schema) (parts : List (Kept (Part F))) (e : PartName × PartFault) : Type 0 where

@@ -65,7 +65,10 @@ pub fn merge_rows(alloc: Global, schema: &Schema, inputs: &[Vec<Row>]) -> Result
 /// The function of each column, in order, where it has one.
 ///
 /// `NoMemory` where an allocation failed.
-fn functions_of(alloc: Global, schema: &Schema) -> Result<Seq<Option<Aggregate>>, NoMemory>
+pub(crate) fn functions_of(
+    alloc: Global,
+    schema: &Schema,
+) -> Result<Seq<Option<Aggregate>>, NoMemory>
     ensures { IfOk result (λ functions. functions ≡ functions_of schema.now) }
 {
     let mut functions = Seq::with_capacity(alloc, schema.columns.len())?;

@@ -3,22 +3,29 @@
 #![tactic(auto)]
 
 mod choosing;
+mod course;
 mod folding;
+mod heads;
+mod held;
 mod merging;
 mod order;
-mod parts;
+mod streamed;
+mod streams;
 
 pub use choosing::merge_rows;
 pub use collapse_rules;
+pub use held::Held;
 pub use merging::merge_sorted;
 pub use part_reader;
 pub use part_reader::{column_file, digest_file, part_writer, primary_marks, skip_index};
 pub use part_set;
-pub use parts::merge_parts;
 pub use rule_aggregating;
 pub use rule_replacing;
 pub use rule_replacing::rule_law;
 pub use rule_summing;
+pub use streamed::{merge_parts, merge_streamed};
 
+#[cfg(test)]
+mod stream_tests;
 #[cfg(test)]
 mod tests;

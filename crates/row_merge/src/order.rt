@@ -26,7 +26,7 @@ pub(crate) fn count_up_to(places: &[u32], rows: &[&Row], row: &Row) -> usize
 }
 
 /// The order of two rows by the columns at these places, from 0, up to the first column that either of them lacks.
-fn cmp_rows(places: &[u32], a: &Row, b: &Row) -> Ordering
+pub(crate) fn cmp_rows(places: &[u32], a: &Row, b: &Row) -> Ordering
     ensures { HasPlaces places.now a.now → HasPlaces places.now b.now
         → result ≡ key_cmp places.now a.now b.now }
 {

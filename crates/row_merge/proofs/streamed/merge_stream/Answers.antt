@@ -1,0 +1,169 @@
+use Rattle.std.proofs.Common.{◌<◌, ◌∙◌, ◌++◌, IfSome, List, [], length, refl, subst, sym}
+use Rattle.mt_outside.proofs.LeftArms.{arm_same}
+use Rattle.mt_values.specs.Grid.{AreRowsOf}
+use Rattle.mt_values.specs.Schemas.{column_types}
+use Rattle.mt_values.specs.Values.{Row}
+use Rattle.mt_values.specs.declared.schema.Schema.{Schema}
+use Rattle.part_reader.specs.Faults.{IsNoDamage}
+use Rattle.part_reader.specs.part_writer.Growing.{HasRows}
+use Rattle.part_reader.proofs.Gaining.{handed_on}
+use Rattle.row_merge.specs.MergedParts.{ExplainsMerge}
+use Rattle.row_merge.specs.Streams.{GivesRow, HasPending, IsPending, rows_to_come}
+use Rattle.row_merge.proofs.Explaining.{stream_says}
+use Rattle.row_merge.proofs.Handing.{merge_begins, merge_counted, merge_goes_on, merged_all, none_pending, row_is_own}
+use Rattle.row_merge.proofs.Nexts.{counted_stream}
+use Rattle.row_merge.proofs.SealedMerges.{explains_any, no_damage}
+use Rattle.row_merge.proofs.Written.{arm_alone, both_as, both_then, first_says, handed_both, no_fault, stage_alone, stage_failed}
+use Rattle.row_merge.proofs.streamed.merge_stream.Goals as goal
+
+pub rows-init : goal.rows-init
+rows-init g c =
+    let i = c.args.inputs.now in
+    let rule = c.args.rule.now in
+    record {
+      stream = c.requires.stream;
+      whole = record { rows = []; has = c.requires.empty };
+      table = refl;
+      told = refl;
+      current = none_pending i.places.now (g.Q.RowRule.run rule) (g.Q.RowRule.holds rule) (g.Q.RowRule.takes rule) (column_types i.schema.now);
+      merging = λ partition rows apart holds left parts.
+          merge_begins (g.Q.RowRule.run rule) (g.Q.RowRule.holds rule) (g.Q.RowRule.takes rule) i rows partition c.args.stream.now c.args.out.now c.requires.stream.inputs.places_are left parts c.requires.empty;
+      leaves = arm_alone c.args.out.now.stage.failed (arm_same c.args.arm.now);
+    }
+
+-- a part could not be read
+pub returns-in_err-row-clause-sound : goal.returns-in_err-row-clause-sound
+returns-in_err-row-clause-sound g c = λ rows holds.
+    handed_on (λ e. IsNoDamage e.1) c.from_residual.result c.in_err-row.field-0.0 c.from_residual.ensures.1 (c.in_err-row.ensures.sound rows holds)
+
+pub returns-in_err-row-clause-damaged : goal.returns-in_err-row-clause-damaged
+returns-in_err-row-clause-damaged g c =
+    let files = g.R.Dir.Dir.files in
+    let i = c.args.inputs.now in
+    handed_on (ExplainsMerge files i.schema.now i.parts.now) c.from_residual.result c.in_err-row.field-0.0 c.from_residual.ensures.1
+    (stream_says files i c.in_err-row.field-0.0 c.rows.stream.readers.items c.rows.invariant.stream.readers c.in_err-row.ensures.damaged)
+
+pub returns-in_err-row-clause-leaves : goal.returns-in_err-row-clause-leaves
+returns-in_err-row-clause-leaves g c =
+    handed_both c.from_residual.result c.in_err-row.field-0.0 c.from_residual.ensures.1 (both_then c.rows.invariant.leaves (λ none. none) (arm_alone c.rows.out.stage.failed c.in_err-row.ensures.arm))
+
+-- the next row is handed over
+pub hand_over-requires-clause-takes : goal.hand_over-requires-clause-takes
+hand_over-requires-clause-takes g c = c.requires.takes
+
+pub hand_over-requires-clause-inputs : goal.hand_over-requires-clause-inputs
+hand_over-requires-clause-inputs g c = c.requires.stream.inputs
+
+pub append-requires-clause-typed : goal.append-requires-clause-typed
+append-requires-clause-typed g c = λ κs within.
+    let types = column_types c.args.inputs.now.schema.now in
+    subst (λ (x : Schema). AreRowsOf (column_types x) c.deref.result.now) (sym (c.rows.invariant.table ∙ c.requires.table))
+    (subst (AreRowsOf types) (sym c.deref.ensures.value) (c.in-Ok.ensures.typed c.rows.invariant.current))
+
+pub append-requires-clause-made : goal.append-requires-clause-made
+append-requires-clause-made g c = λ κs within. c.in_ok-row.ensures.stream.none_made
+
+pub rows-preserved : goal.rows-preserved
+rows-preserved g c =
+    let i = c.args.inputs.now in
+    let rule = c.args.rule.now in
+    let run = g.Q.RowRule.run rule in
+    let holds = g.Q.RowRule.holds rule in
+    let takes = g.Q.RowRule.takes rule in
+    let before = c.rows.invariant in
+    let old = c.rows.stream in
+    let mid = c.next_row.new.stream in
+    let appended = c.append.ensures in
+    record {
+      stream = counted_stream i mid _ c.in_ok-row.ensures.stream refl c.in_ok-row.ensures.stream.readers c.in_ok-row.ensures.stream.ranked appended.held c.in-Ok-append.ensures.made;
+      whole = c.in-Ok-append.ensures.whole;
+      table = c.in-Ok-append.ensures.table ∙ before.table;
+      told = c.in-Ok-append.ensures.told ∙ before.told;
+      current = c.in-Ok.ensures.current before.current;
+      merging = λ partition rows apart hold left parts.
+          let m = before.merging partition rows apart hold left parts in
+          let t = subst (GivesRow i.places.now rows m.left mid) c.in-Some.is (c.in_ok-row.ensures.gives rows m.left hold m.left_is m.over.merging.sorted) in
+          let own = row_is_own run holds takes i rows old mid c.rows.current c.in-Ok.new c.rows.out c.append.new.out c.in-Some.row m t in
+          let has = subst (λ (zs : List Row). HasRows c.append.new.out (m.done ++ zs)) c.deref.ensures.value (c.in-Ok-append.ensures.rows m.done m.has) in
+          merge_counted run holds takes i rows mid _ c.in-Ok.new c.append.new.out refl refl
+          (merge_goes_on run holds takes i rows old mid c.rows.current c.in-Ok.new c.rows.out c.append.new.out c.in-Some.row m t c.in-Ok.kept.items has
+          (c.in-Ok.ensures.hands rows m.done m.left t.after apart own.signed m.over t.taken));
+      leaves = both_then before.leaves (λ none. none) (both_then (arm_alone c.rows.out.stage.failed c.in_ok-row.ensures.arm) (λ none. none)
+          (stage_alone c.next_row.new.arm c.rows.out.stage.failed c.append.new.out.stage.failed ⊥ appended.cause.later (λ f. absurd f) (λ none. c.in-Ok-append.ensures.cause.ok)));
+    }
+
+pub rows-smaller : goal.rows-smaller
+rows-smaller g c = subst (λ found. IfSome found (λ (row : Row). rows_to_come c.next_row.new.stream < rows_to_come c.rows.stream)) c.in-Some.is c.in_ok-row.ensures.fewer
+
+-- the last key ends
+pub end_merge-requires-clause-current : goal.end_merge-requires-clause-current
+end_merge-requires-clause-current g c = λ κs within.
+    let rule = c.args.rule.now in
+    subst (λ (x : Schema). HasPending (g.Q.RowRule.holds rule) (g.Q.RowRule.takes rule) (column_types x) c.rows.current) (sym (c.rows.invariant.table ∙ c.requires.table)) c.rows.invariant.current
+
+pub end_merge-requires-clause-made : goal.end_merge-requires-clause-made
+end_merge-requires-clause-made g c = λ κs within. c.in_ok-row.ensures.stream.none_made
+
+pub returns-in-Ok-end_merge-clause-merged : goal.returns-in-Ok-end_merge-clause-merged
+returns-in-Ok-end_merge-clause-merged g c = λ partition rows apart hold left parts.
+    let i = c.args.inputs.now in
+    let rule = c.args.rule.now in
+    let run = g.Q.RowRule.run rule in
+    let holds = g.Q.RowRule.holds rule in
+    let takes = g.Q.RowRule.takes rule in
+    let m = c.rows.invariant.merging partition rows apart hold left parts in
+    let none = subst (GivesRow i.places.now rows m.left c.next_row.new.stream) c.in_default.is (c.in_ok-row.ensures.gives rows m.left hold m.left_is m.over.merging.sorted) in
+    let is = subst (λ (x : Schema). IsPending holds takes (column_types x) c.rows.current m.over.pending) (sym (c.rows.invariant.table ∙ c.requires.table)) m.over.is in
+    merged_all i.places.now run holds takes (column_types i.schema.now) (λ key some kept many all same ran. g.met.Q.RowRule.keeps rule i.places.now key some kept apart many all same ran) rows m.done m.left c.rows.current c.end_merge.new.out m.over none
+    (c.in-Ok-end_merge.ensures.leaves m.done m.over.pending m.has is)
+
+pub returns-in-Ok-end_merge-clause-most : goal.returns-in-Ok-end_merge-clause-most
+returns-in-Ok-end_merge-clause-most g c = let i = c.args.inputs.now in c.end_merge.ensures.held.within (length i.parts.now) i.schema.now.granularity (c.next_row.ensures.most c.requires.shaped)
+
+pub returns-in-Ok-end_merge-clause-leaves : goal.returns-in-Ok-end_merge-clause-leaves
+returns-in-Ok-end_merge-clause-leaves g c =
+    both_as (both_then c.rows.invariant.leaves (λ none. none) (both_then (arm_alone c.rows.out.stage.failed c.in_ok-row.ensures.arm) (λ none. none)
+    (stage_alone c.next_row.new.arm c.rows.out.stage.failed c.end_merge.new.out.stage.failed ⊥ c.end_merge.ensures.cause.later (λ f. absurd f) (λ none. c.in-Ok-end_merge.ensures.cause.ok))))
+    (λ fault. absurd fault) (λ none. absurd none)
+
+-- memory ran out
+pub returns-in_default-hand_over-clause-damaged : goal.returns-in_default-hand_over-clause-damaged
+returns-in_default-hand_over-clause-damaged g c = let i = c.args.inputs.now in first_says g.R.Dir.Dir.files i.schema.now i.parts.now c.index-inputs-0.result c.requires.some c.index-inputs-0.is _ tt
+
+pub returns-in_default-hand_over-clause-leaves : goal.returns-in_default-hand_over-clause-leaves
+returns-in_default-hand_over-clause-leaves g c = both_as (both_then c.rows.invariant.leaves (λ none. none) (arm_alone c.rows.out.stage.failed c.in_ok-row.ensures.arm)) no_fault (λ none. absurd none)
+
+-- the part could not be written
+pub returns-in-Err-clause-damaged : goal.returns-in-Err-clause-damaged
+returns-in-Err-clause-damaged g c =
+    let i = c.args.inputs.now in
+    let k = c.index-inputs-0-in-Err.result in
+    first_says g.R.Dir.Dir.files i.schema.now i.parts.now k c.requires.some c.index-inputs-0-in-Err.is c.from.result (explains_any g.R.Dir.Dir.files i.schema.now k.part c.in-Err.error c.from.result c.from.ensures)
+
+pub returns-in-Err-clause-sound : goal.returns-in-Err-clause-sound
+returns-in-Err-clause-sound g c = λ rows holds. no_damage c.in-Err.error c.from.result c.from.ensures
+
+pub returns-in-Err-clause-most : goal.returns-in-Err-clause-most
+returns-in-Err-clause-most g c = let i = c.args.inputs.now in c.append.ensures.held.within (length i.parts.now) i.schema.now.granularity (c.next_row.ensures.most c.requires.shaped)
+
+pub returns-in-Err-clause-leaves : goal.returns-in-Err-clause-leaves
+returns-in-Err-clause-leaves g c =
+    both_then (both_then c.rows.invariant.leaves (λ none. none) (arm_alone c.rows.out.stage.failed c.in_ok-row.ensures.arm)) (λ none. none)
+    (stage_failed c.next_row.new.arm c.rows.out.stage.failed c.append.new.out.stage.failed c.append.result c.in-Err.error c.from.result c.in-Err.is c.from.ensures c.append.ensures.cause)
+
+pub returns-in-Err-end_merge-clause-damaged : goal.returns-in-Err-end_merge-clause-damaged
+returns-in-Err-end_merge-clause-damaged g c =
+    let i = c.args.inputs.now in
+    let k = c.index-inputs-0-in-Err-end_merge.result in
+    first_says g.R.Dir.Dir.files i.schema.now i.parts.now k c.requires.some c.index-inputs-0-in-Err-end_merge.is c.from-in-Err-end_merge.result (explains_any g.R.Dir.Dir.files i.schema.now k.part c.in-Err-end_merge.error c.from-in-Err-end_merge.result c.from-in-Err-end_merge.ensures)
+
+pub returns-in-Err-end_merge-clause-sound : goal.returns-in-Err-end_merge-clause-sound
+returns-in-Err-end_merge-clause-sound g c = λ rows holds. no_damage c.in-Err-end_merge.error c.from-in-Err-end_merge.result c.from-in-Err-end_merge.ensures
+
+pub returns-in-Err-end_merge-clause-most : goal.returns-in-Err-end_merge-clause-most
+returns-in-Err-end_merge-clause-most g c = let i = c.args.inputs.now in c.end_merge.ensures.held.within (length i.parts.now) i.schema.now.granularity (c.next_row.ensures.most c.requires.shaped)
+
+pub returns-in-Err-end_merge-clause-leaves : goal.returns-in-Err-end_merge-clause-leaves
+returns-in-Err-end_merge-clause-leaves g c =
+    both_then (both_then c.rows.invariant.leaves (λ none. none) (arm_alone c.rows.out.stage.failed c.in_ok-row.ensures.arm)) (λ none. none)
+    (stage_failed c.next_row.new.arm c.rows.out.stage.failed c.end_merge.new.out.stage.failed c.end_merge.result c.in-Err-end_merge.error c.from-in-Err-end_merge.result c.in-Err-end_merge.is c.from-in-Err-end_merge.ensures c.end_merge.ensures.cause)

@@ -1,0 +1,69 @@
+use Rattle.std.proofs.Common.{◌∙◌, arith}
+use Rattle.mt_outside.proofs.LeftArms.{arm_calm, arm_same, arm_then}
+use Rattle.part_reader.specs.Faults.{IsNoDamage}
+use Rattle.part_reader.proofs.Gaining.{handed_on}
+use Rattle.row_merge.specs.Heads.{ahead_of}
+use Rattle.row_merge.specs.Streams.{ExplainsStream}
+use Rattle.row_merge.proofs.Explaining.{all_later, all_stay, explained_before}
+use Rattle.row_merge.proofs.Nexts.{all_filled, more_filled, none_filled}
+use Rattle.row_merge.proofs.Opening.{none_at}
+use Rattle.row_merge.proofs.Refilling.{ahead_parts, ahead_rests}
+use Rattle.row_merge.proofs.Written.{handed_arm}
+use Rattle.row_merge.proofs.streams.fill_all.Goals as goal
+
+pub loop-number-init : goal.loop-number-init
+loop-number-init g c =
+    let s = c.args.stream.now in
+    record {
+      stream = c.requires.stream;
+      later = all_stay s.readers.items;
+      none = λ j within. none_at (ahead_of s.cursors.items) j c.requires.none;
+      rows = λ rows holds. none_filled s rows (ahead_rests g.R.Dir.Dir.files c.args.inputs.now s c.requires.stream rows holds);
+      arm = arm_same c.args.arm.now;
+    }
+
+pub refill-requires-clause-none : goal.refill-requires-clause-none
+refill-requires-clause-none g c = λ κs within. c.loop-number.invariant.none c.loop-number.number (omega arith)
+
+pub returns-in_err-refill-clause-sound : goal.returns-in_err-refill-clause-sound
+returns-in_err-refill-clause-sound g c = λ rows holds.
+    handed_on (λ e. IsNoDamage e.1) c.from_residual.result c.in_err-refill.field-0.0 c.from_residual.ensures.1 (c.in_err-refill.ensures.sound rows holds)
+
+pub returns-in_err-refill-clause-damaged : goal.returns-in_err-refill-clause-damaged
+returns-in_err-refill-clause-damaged g c =
+    let files = g.R.Dir.Dir.files in
+    let i = c.args.inputs.now in
+    let olds = c.args.stream.now.readers.items in
+    handed_on (ExplainsStream files i olds) c.from_residual.result c.in_err-refill.field-0.0 c.from_residual.ensures.1
+    (explained_before files i c.in_err-refill.field-0.0 olds c.loop-number.stream.readers.items c.loop-number.invariant.later c.in_err-refill.ensures.damaged)
+
+pub returns-in_err-refill-clause-arm : goal.returns-in_err-refill-clause-arm
+returns-in_err-refill-clause-arm g c =
+    handed_arm c.from_residual.result c.in_err-refill.field-0.0 c.from_residual.ensures.1 (arm_then c.loop-number.invariant.arm (λ none. none) c.in_err-refill.ensures.arm)
+
+pub loop-number-preserved : goal.loop-number-preserved
+loop-number-preserved g c =
+    let i = c.args.inputs.now in
+    let mid = c.loop-number.stream in
+    let before = c.loop-number.invariant in
+    let n = c.loop-number.number in
+    record {
+      stream = c.in_ok-refill.ensures.stream;
+      later = all_later c.args.stream.now.readers.items mid.readers.items c.refill.new.stream.readers.items before.later c.in_ok-refill.ensures.goes_on;
+      none = λ j within. c.in_ok-refill.ensures.ahead j (λ e. omega (arith, e, within)) ∙ before.none j (omega (arith, within));
+      rows = λ rows holds.
+          more_filled c.args.stream.now rows mid c.refill.new.stream n (omega (arith, ahead_parts g.R.Dir.Dir.files i mid before.stream)) (before.none n (omega arith)) (before.rows rows holds) (c.in_ok-refill.ensures.rows rows holds);
+      arm = arm_calm before.arm (λ none. none) c.in_ok-refill.ensures.arm (λ none. none);
+    }
+
+pub returns-clause-rows : goal.returns-clause-rows
+returns-clause-rows g c = λ rows holds.
+    let i = c.args.inputs.now in
+    let s = c.args.stream.now in
+    let new = c.loop-number.stream in
+    let before = c.loop-number.invariant in
+    let files = g.R.Dir.Dir.files in
+    all_filled s rows new c.loop-number.number (omega (arith, ahead_parts files i new before.stream)) (before.rows rows holds) c.requires.none (ahead_rests files i s c.requires.stream rows holds)
+
+pub returns-clause-most : goal.returns-clause-most
+returns-clause-most g c = λ shaped. (c.loop-number.invariant.stream.counts shaped).within
