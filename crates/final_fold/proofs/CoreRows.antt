@@ -8,9 +8,10 @@ use Rattle.mt_values.specs.Values.{Row}
 use Rattle.table_core.specs.mt_model.Final.{FoldsAll, KeysFoldOnce}
 use Rattle.table_core.specs.mt_model.History.{History, schema_of}
 use Rattle.table_core.specs.mt_model.Live.{live}
+use Rattle.table_core.specs.mt_model.Numbers.{mutations_in}
 use Rattle.table_core.specs.mt_model.Partial.{Partly}
 use Rattle.table_core.specs.part_history.declared.part.CorePart.{CorePart}
-use Rattle.table_core.specs.part_history.Parts.{AreInBlockOrder, PartStands, TableStands, core_parts_of, rows_of_parts}
+use Rattle.table_core.specs.part_history.Parts.{AreInBlockOrder, PartStands, TableStands, core_parts_of, rows_seen_of}
 use Rattle.table_core.proofs.PartHistoryJoined.{parts_joined}
 use Rattle.table_core.proofs.PartHistoryNumbered.{legal_schema}
 use Rattle.table_core.specs.declared.event.Event.{Event}
@@ -48,16 +49,16 @@ module _ (core : Core) (is : IsCore core) (table : List ℕ) (schema : Schema) (
   own : All (IsTableRow schema) (live table schema core.history)
   own = table_rows core.history is.legal table schema there
 
-  partly : Partly schema (live table schema core.history) (rows_of_parts (core_parts_of table core.parts))
+  partly : Partly schema (live table schema core.history) (rows_seen_of (mutations_in table core.history) (core_parts_of table core.parts))
   partly = parts_joined core.history table schema is.legal there (core_parts_of table core.parts) (is.parts table) (is.order table)
 
   core_merges : (out : List Row) × MergesVisible schema table core out
   core_merges =
-      let visible = rows_of_parts (core_parts_of table core.parts) in
+      let visible = rows_seen_of (mutations_in table core.history) (core_parts_of table core.parts) in
       merges_exist schema (legal_schema table core.history schema is.legal there) visible (partly_table schema (live table schema core.history) visible own partly)
 
   core_folds : (out : List Row) → MergesVisible schema table core out → FoldsAll schema (live table schema core.history) out
-  core_folds out merges = partly_folds schema (live table schema core.history) (rows_of_parts (core_parts_of table core.parts)) out own partly merges
+  core_folds out merges = partly_folds schema (live table schema core.history) (rows_seen_of (mutations_in table core.history) (core_parts_of table core.parts)) out own partly merges
 
 -- ---- after events
 

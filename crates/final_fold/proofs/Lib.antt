@@ -1,4 +1,4 @@
-pub mod Asks
+pub mod Added
 pub mod ChosenParts
 pub mod CoreRows
 pub mod Explained
@@ -8,13 +8,12 @@ pub mod FoldedParts
 pub mod FoldedRuns
 pub mod FreeChoices
 pub mod Gains
-pub mod Granules
 pub mod HidingGranules
-pub mod Joining
 pub mod KeyTests
 pub mod Making
 pub mod MergedRows
 pub mod PartitionRuns
+pub mod Passing
 pub mod Picking
 pub mod Renamed
 pub mod RowValues
@@ -30,3 +29,7 @@ pub use Rattle.table_core.proofs.PartHistoryOwnRows
 pub use Rattle.table_core.proofs.PartHistoryPortions
 pub use Rattle.row_merge.proofs.HistoryRows as RowMergeHistoryRows
 pub use Rattle.row_merge.proofs.RuleLawPartlyRows
+pub use Rattle.select_plan.proofs.FoldedMatches as SelectPlanFoldedMatches
+pub use Rattle.select_plan.proofs.Planning as SelectPlanPlanning
+pub use Rattle.select_plan.proofs.PrimaryMarksSkippedGranules
+pub use Rattle.select_plan.proofs.SkipIndexSkipped

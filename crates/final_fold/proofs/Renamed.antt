@@ -1,6 +1,6 @@
 -- A condition over the values of the columns that its tests name.
 use Rattle.std.proofs.Common.{◌≡◌, ◌≢◌, ℕ, zero, suc, ◌+◌, ◌<◌, ◌⊎◌, inl, inr, true, false, not, ◌&&◌, ◌||◌, cond, List, [], ◌∷◌, ◌++◌, Some, refl, sym, ap, ap₂, ◌∙◌, length, map, get_or, slice_get, take, All, arith, option_and_then}
-use Rattle.std.specs.List.{AllPairs, filter}
+use Rattle.std.specs.List.{AllPairs}
 use Rattle.std.proofs.Math.Dec.{eqb}
 use Rattle.std.proofs.lemmas.Bool.Decides.{eqb_tells}
 use Rattle.std.proofs.lemmas.List.Elements.{All-cons, All-head, All-nil, All-tail}
@@ -91,8 +91,3 @@ moved_more (q ∷ qs) (u ∷ us) zero p t even within p_is t_is = ap₂ (λ (x :
 moved_more (q ∷ qs) (u ∷ us) (suc i) p t even within p_is t_is =
     let next : suc i + 1 ≡ suc (i + 1) = omega arith in
     ap (λ n. moved_to (take n (q ∷ qs)) (take n (u ∷ us))) next ∙ ap (λ (ts : List Test). record u { column = q } ∷ ts) (moved_more qs us i p t (omega (arith, even)) (omega (arith, within)) p_is t_is)
-
--- all rows are kept where a test is true of each
-pub all_kept : {X : Type 0} (xs : List X) → filter (λ x. true) xs ≡ xs
-all_kept [] = refl
-all_kept (x ∷ xs) = ap (λ ys. x ∷ ys) (all_kept xs)

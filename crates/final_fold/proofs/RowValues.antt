@@ -53,7 +53,7 @@ one_value row place v is = ap (λ o. cons_option o []) is
 
 -- ---- rows one after another
 
-with_more : (rows more : List Row) (places : List ℕ) (columns : List Cells) → with_columns more places (with_columns rows places columns) ≡ with_columns (rows ++ more) places columns
+pub with_more : (rows more : List Row) (places : List ℕ) (columns : List Cells) → with_columns more places (with_columns rows places columns) ≡ with_columns (rows ++ more) places columns
 with_more rows more [] columns = refl
 with_more rows more (p ∷ ps) [] = refl
 with_more rows more (p ∷ ps) (c ∷ cs) =

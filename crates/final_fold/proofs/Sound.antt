@@ -1,5 +1,5 @@
 -- What is told of parts that hold rows is no damage.
-use Rattle.std.proofs.Common.{◌≡◌, ℕ, ◌<◌, Bool, List, [], ◌∷◌, Option, refl, sym, ap, ◌∙◌, length, slice_get, arith, Some}
+use Rattle.std.proofs.Common.{◌≡◌, ℕ, ◌<◌, inl, inr, Bool, List, [], ◌∷◌, Option, refl, sym, ap, length, slice_get, arith, Some}
 use Rattle.std.specs.List.{cons_option}
 use Rattle.std.proofs.lemmas.List.{length-map}
 use Rattle.std.proofs.lemmas.List.Elements.{All-cons, All-nil}
@@ -22,8 +22,10 @@ use Rattle.row_merge.specs.part_reader.Granules.{ExplainsChosen, column_in}
 use Rattle.row_merge.specs.part_reader.Parts.{HoldsAt, PartHolds}
 use Rattle.row_merge.specs.part_set.declared.kept.Kept.{Kept}
 use Rattle.row_merge.specs.MergedParts.{ExplainsMerge, ExplainsPart, PartsHold, column_places}
-use Rattle.row_merge.proofs.PartReaderHolding.{holds_at, sound_part}
+use Rattle.row_merge.proofs.PartReaderHolding.{holds_at}
+use Rattle.row_merge.proofs.PartReaderLeftGranules.{lone_sound, rows_within}
 use Rattle.row_merge.proofs.PartReaderPickedValues.{picked_sound}
+use Rattle.row_merge.proofs.Readers.{held_shape}
 use Rattle.final_fold.specs.declared.asking.Wanted.{Wanted}
 use Rattle.final_fold.specs.Asked.{named}
 use Rattle.final_fold.specs.Folded.{ExplainsFold}
@@ -46,14 +48,15 @@ module _ {F : Type 0} (files_of : F → Option Files) (schema : Schema) (part : 
   chosen_sound places chosen (Damaged f place wanted found) counted e =
       picked_sound files_of schema part e.number rows (own_held e.number e.col_type e.type_is) e.col_type e.type_is chosen (Damaged f place wanted found) counted e.explained
 
-  -- of columns that were read whole
+  -- of granules of its columns that were read one by one
   pub whole_sound : (why : PartFault) → ExplainsPart files_of schema part why → IsNoDamage why
   whole_sound Fault e = tt
   whole_sound NoMemory e = tt
-  whole_sound (Damaged f place wanted found) e =
+  whole_sound (Damaged f place wanted found) (inl other) = absurd (other.other (held_shape files_of schema part rows h))
+  whole_sound (Damaged f place wanted found) (inr e) =
       let column : Cells = record { col_type = e.col_type; values = [] } in
-      sound_part files_of schema part (e.number ∷ []) rows (column ∷ []) (Damaged f place wanted found) (own_held e.number e.col_type e.type_is) (sym (ap (λ o. cons_option o []) e.type_is))
-      (record { at = 0; number = e.number; column = column; number_is = refl; column_is = refl; explained = e.explained })
+      lone_sound files_of schema part (e.number ∷ []) rows (own_held e.number e.col_type e.type_is) e.explained.granule (column ∷ []) (Damaged f place wanted found) (rows_within part.loaded e.explained.granule e.explained.some)
+      (sym (ap (λ o. cons_option o []) e.type_is)) (record { at = 0; number = e.number; column = column; number_is = refl; column_is = refl; explained = e.explained.explained })
 
 -- ---- parts
 
@@ -73,7 +76,7 @@ module _ {F : Type 0} (files_of : F → Option Files) (w : Wanted) (parts : List
   pub matches_sound : (e : PartName × PartFault) → ExplainsMatches files_of parts chosen w e → IsNoDamage e.1
   matches_sound e why =
       let own = held files_of w.schema.now parts rows hold why.at why.kept why.kept_is in
-      chosen_sound files_of w.schema.now why.kept.part own.rows own.holds (named w) why.explained.read e.1 (why.explained.even ∙ counted why.at why.own own.rows why.own_is own.there) why.explained.explained
+      chosen_sound files_of w.schema.now why.kept.part own.rows own.holds (named w) why.own e.1 (counted why.at why.own own.rows why.own_is own.there) why.explained
 
   pub fold_sound : (e : PartName × PartFault) → ExplainsFold files_of parts chosen w e → IsNoDamage e.1
   fold_sound e why =

@@ -1,27 +1,20 @@
 -- What a condition is by its conjuncts, where those that are not asked are sure.
-use Rattle.std.proofs.Common.{◌≡◌, ℕ, zero, suc, ◌+◌, ◌<◌, ◌≤◌, ◌⊎◌, inl, inr, Bool, true, false, not, ◌&&◌, ◌||◌, cond, List, [], ◌∷◌, ◌++◌, Some, refl, sym, ap, ap₂, ◌∙◌, subst, length, length-take, map, flat_map, get_or, slice_get, take, drop, All, arith}
-use Rattle.std.specs.List.{AllZip, filter, list_all, zip}
-use Rattle.std.proofs.Math.Seq.{drop-append_seam, take-append_seam}
-use Rattle.std.proofs.lemmas.Bool.{cases_lt}
+use Rattle.std.proofs.Common.{◌≡◌, ℕ, zero, suc, ◌+◌, ◌<◌, ◌≤◌, Bool, true, false, not, ◌&&◌, ◌||◌, cond, List, [], ◌∷◌, ◌++◌, Some, refl, sym, ap, ap₂, ◌∙◌, subst, length, map, flat_map, get_or, slice_get, drop, All, arith}
+use Rattle.std.specs.List.{AllZip, list_all, zip}
 use Rattle.std.proofs.lemmas.Grind.{flat_map-append}
-use Rattle.std.proofs.lemmas.List.{append-nil, drop-map, drop_all, drop_more, map-append, take-map, take_all}
+use Rattle.std.proofs.lemmas.List.{append-nil, drop_all, drop_more, map-append}
 use Rattle.std.proofs.lemmas.List.Concat.{flat_map-cons}
-use Rattle.std.proofs.lemmas.List.Elements.{All-append, All-cons, All-head, All-map, All-nil, All-tail}
+use Rattle.std.proofs.lemmas.List.Elements.{All-append, All-cons, All-head, All-nil, All-tail}
 use Rattle.std.proofs.lemmas.Option.{get_or_from_slice_get, same_Some, slice_get_within}
 use Rattle.mt_values.specs.declared.expr.Test.{Test}
 use Rattle.mt_values.specs.Conditions.{Condition, Always, And, Holds, Not, Or, conjuncts_of, tests_of}
-use Rattle.mt_values.specs.Lists.{where_true}
 use Rattle.mt_values.specs.Order.{key_of}
 use Rattle.mt_values.specs.Tests.{eval}
 use Rattle.mt_values.specs.Values.{Row}
-use Rattle.row_merge.specs.part_reader.Granules.{chosen_of}
+use Rattle.row_merge.specs.part_reader.declared.sieves.Sieve.{Sieve}
+use Rattle.row_merge.proofs.PartReaderSiftedRows.{meets_one}
 use Rattle.final_fold.specs.declared.asking.Conjunct.{Conjunct}
-use Rattle.final_fold.specs.declared.asking.Sieve.{Sieve}
-use Rattle.final_fold.specs.Asked.{IsSieveOf, MeetUnasked, asked_somewhere, some_true, tested, unasked_of}
-use Rattle.final_fold.specs.Sieves.{unasked}
-use Rattle.final_fold.proofs.Joining.{AllTrue, all_parts, drop_none, take_none}
-use Rattle.final_fold.proofs.Granules.{where_filter}
-use Rattle.final_fold.proofs.Renamed.{all_kept}
+use Rattle.final_fold.specs.Asked.{IsSieveOf, asked_somewhere, some_true, tested}
 
 -- ---- two lists item by item
 
@@ -37,13 +30,6 @@ module _ {X Y : Type 0} where
   zip_push R [] (b ∷ ys) x y h r = absurd h
   zip_push R (a ∷ xs) [] x y h r = absurd h
   zip_push R (a ∷ xs) (b ∷ ys) x y h r = (h.0, zip_push R xs ys x y h.1 r)
-
-  -- what holds of the items of the first list holds of those of the second in another form
-  pub zip_right : (R : X → Y → Type 0) (P : X → Type 0) (Q : Y → Type 0) → ((x : X) (y : Y) → R x y → P x → Q y) → (xs : List X) (ys : List Y) → AllZip R xs ys → All P xs → All Q ys
-  zip_right R P Q turn [] [] h all = All-nil Q
-  zip_right R P Q turn [] (y ∷ ys) h all = absurd h
-  zip_right R P Q turn (x ∷ xs) [] h all = absurd h
-  zip_right R P Q turn (x ∷ xs) (y ∷ ys) h all = All-cons Q y ys (turn x y h.0 (All-head P x xs all)) (zip_right R P Q turn xs ys h.1 (All-tail P x xs all))
 
   -- the pair at a place
   pub pair_there : (xs : List X) (ys : List Y) (i : ℕ) (x : X) (y : Y) → slice_get xs i ≡ Some x → slice_get ys i ≡ Some y → slice_get (zip xs ys) i ≡ Some (x, y)
@@ -61,20 +47,9 @@ zip_mapped v R (z ∷ zs) (y ∷ ys) h = (h.0, zip_mapped v R zs ys h.1)
 
 -- ---- the conjuncts that are asked somewhere
 
-and_true : (b : Bool) → (b && true) ≡ b
-and_true false = refl
-and_true true = refl
-
 none_first : (b c : Bool) → (b || c) ≡ false → (b ≡ false) × (c ≡ false)
 none_first false c e = (refl, e)
 none_first true c e = cc
-
-pub unasked_none : (chosen a : List Bool) → some_true a ≡ false → unasked_of chosen a ≡ chosen
-unasked_none [] a none = refl
-unasked_none (c ∷ chosen) [] none = ap (λ cs. c ∷ cs) (unasked_none chosen [] none)
-unasked_none (c ∷ chosen) (b ∷ a) none =
-    let parts = none_first b (some_true a) none in
-    ap₂ (λ x xs. (c && not x) ∷ xs) parts.0 (unasked_none chosen a parts.1) ∙ ap (λ x. x ∷ chosen) (and_true c)
 
 abbrev pub Pair : Type 0
 Pair = Condition Test × List Bool
@@ -89,108 +64,53 @@ with_pair p rest b = cond b (p ∷ rest) rest
 pub somewhere_more : (d : Condition Test) (a : List Bool) (ds : List (Condition Test)) (gs : List (List Bool)) (b : Bool) → some_true a ≡ b → asked_somewhere (d ∷ ds) (a ∷ gs) ≡ with_pair (d, a) (asked_somewhere ds gs) b
 somewhere_more d a ds gs b is = ap (with_pair (d, a) (asked_somewhere ds gs)) is
 
--- what holds of each conjunct with its granules holds of those that are asked
-pub all_pairs : (Q : Condition Test → List Bool → Type 0) (ds : List (Condition Test)) (gs : List (List Bool)) → AllZip Q ds gs → All (λ (p : Pair). Q p.0 p.1) (asked_somewhere ds gs)
-all_pairs Q [] [] h = All-nil (λ (p : Pair). Q p.0 p.1)
-all_pairs Q [] (a ∷ gs) h = absurd h
-all_pairs Q (d ∷ ds) [] h = absurd h
-all_pairs Q (d ∷ ds) (a ∷ gs) h = by (some_true a) refl (all_pairs Q ds gs h.1)
-  where
-    by : (b : Bool) → some_true a ≡ b → All (λ (p : Pair). Q p.0 p.1) (asked_somewhere ds gs) → All (λ (p : Pair). Q p.0 p.1) (asked_somewhere (d ∷ ds) (a ∷ gs))
-    by true is rest = subst (All (λ (p : Pair). Q p.0 p.1)) (sym (somewhere_more d a ds gs true is)) (All-cons (λ (p : Pair). Q p.0 p.1) (d, a) (asked_somewhere ds gs) h.0 rest)
-    by false is rest = subst (All (λ (p : Pair). Q p.0 p.1)) (sym (somewhere_more d a ds gs false is)) rest
+-- ---- what a condition is of a row in a granule
 
--- a row that meets each conjunct which is asked nowhere
-abbrev pub MeetsOthers : List (Condition Test) → List (List Bool) → Row → Type 0
-MeetsOthers ds gs row = AllZip (λ d a. some_true a ≡ false → eval d row ≡ true) ds gs
+-- a row of a granule meets each conjunct that is not asked there
+abbrev pub MeetsHere : List (Condition Test) → List (List Bool) → ℕ → Row → Type 0
+MeetsHere ds gs granule row = AllZip (λ d a. get_or a granule false ≡ false → eval d row ≡ true) ds gs
 
-pub row_all : (row : Row) (ds : List (Condition Test)) (gs : List (List Bool)) → MeetsOthers ds gs row → list_all (λ (p : Pair). eval p.0 row) (asked_somewhere ds gs) ≡ list_all (λ d. eval d row) ds
-row_all row [] [] h = refl
-row_all row [] (a ∷ gs) h = absurd h
-row_all row (d ∷ ds) [] h = absurd h
-row_all row (d ∷ ds) (a ∷ gs) h = by (some_true a) refl (row_all row ds gs h.1)
+-- whether it meets a conjunct, where that is asked
+abbrev pub asks : ℕ → Row → Pair → Bool
+asks granule row p = not (get_or p.1 granule false) || eval p.0 row
+
+none_at : (a : List Bool) (n : ℕ) → some_true a ≡ false → get_or a n false ≡ false
+none_at [] n none = refl
+none_at (b ∷ a) zero none = (none_first b (some_true a) none).0
+none_at (b ∷ a) (suc n) none = none_at a n (none_first b (some_true a) none).1
+
+own_answer : (asked meets : Bool) → (asked ≡ false → meets ≡ true) → (not asked || meets) ≡ meets
+own_answer true meets sure = refl
+own_answer false meets sure = sym (sure refl)
+
+-- those that are asked somewhere say of it what all conjuncts say
+pub row_here : (n : ℕ) (row : Row) (ds : List (Condition Test)) (gs : List (List Bool)) → MeetsHere ds gs n row → list_all (asks n row) (asked_somewhere ds gs) ≡ list_all (λ d. eval d row) ds
+row_here n row [] [] here = refl
+row_here n row [] (a ∷ gs) here = absurd here
+row_here n row (d ∷ ds) [] here = absurd here
+row_here n row (d ∷ ds) (a ∷ gs) here = by (some_true a) refl (row_here n row ds gs here.1)
   where
-    by : (b : Bool) → some_true a ≡ b → list_all (λ (p : Pair). eval p.0 row) (asked_somewhere ds gs) ≡ list_all (λ e. eval e row) ds
-        → list_all (λ (p : Pair). eval p.0 row) (asked_somewhere (d ∷ ds) (a ∷ gs)) ≡ list_all (λ e. eval e row) (d ∷ ds)
-    by true is rest = ap (list_all (λ (p : Pair). eval p.0 row)) (somewhere_more d a ds gs true is) ∙ ap (λ b. eval d row && b) rest
+    by : (b : Bool) → some_true a ≡ b → list_all (asks n row) (asked_somewhere ds gs) ≡ list_all (λ e. eval e row) ds → list_all (asks n row) (asked_somewhere (d ∷ ds) (a ∷ gs)) ≡ list_all (λ e. eval e row) (d ∷ ds)
+    by true is rest =
+        ap (list_all (asks n row)) (somewhere_more d a ds gs true is)
+        ∙ ap₂ (λ x y. x && y) (own_answer (get_or a n false) (eval d row) here.0) rest
     by false is rest =
-        ap (list_all (λ (p : Pair). eval p.0 row)) (somewhere_more d a ds gs false is) ∙ rest
-        ∙ ap (λ b. b && list_all (λ e. eval e row) ds) (sym (h.0 is))
-
-module _ (g : ℕ) (chosen : List Bool) (ds : List (Condition Test)) (gs : List (List Bool)) (rows : List Row) (sure : MeetUnasked g chosen ds gs rows) where
-  -- each chosen row does
-  pub each_row : All (MeetsOthers ds gs) (chosen_of g chosen rows)
-  each_row = λ k none within.
-      zip_weaker (λ d a. All (λ (row : Row). eval d row ≡ true) (chosen_of g (unasked_of chosen a) rows)) (λ d a. some_true a ≡ false → eval d (get_or (chosen_of g chosen rows) k none) ≡ true)
-      (λ d a q is. (subst (λ cs. All (λ (row : Row). eval d row ≡ true) (chosen_of g cs rows)) (unasked_none chosen a is) q) k none within) ds gs sure
-
-  pub pairs_sure : All (λ (p : Pair). All (λ (row : Row). eval p.0 row ≡ true) (chosen_of g (unasked_of chosen p.1) rows)) (asked_somewhere ds gs)
-  pairs_sure = all_pairs (λ d a. All (λ (row : Row). eval d row ≡ true) (chosen_of g (unasked_of chosen a) rows)) ds gs sure
+        ap (list_all (asks n row)) (somewhere_more d a ds gs false is) ∙ rest
+        ∙ ap (λ b. b && list_all (λ e. eval e row) ds) (sym (here.0 (none_at a n is)))
 
 -- sieves say of the values that are read what the conjuncts say of the row
-pub sieves_say : (read : List ℕ) (row : Row) → All (λ place. place < length row) read → (ps : List Pair) (ss : List Sieve) → AllZip (IsSieveOf read) ps ss
-    → list_all (λ (s : Sieve). eval s.condition (key_of read row)) ss ≡ list_all (λ (p : Pair). eval p.0 row) ps
-sieves_say read row wide [] [] h = refl
-sieves_say read row wide [] (s ∷ ss) h = absurd h
-sieves_say read row wide (p ∷ ps) [] h = absurd h
-sieves_say read row wide (p ∷ ps) (s ∷ ss) h = ap₂ (λ x y. x && y) (h.0.same row wide) (sieves_say read row wide ps ss h.1)
+pub sieves_ask : (read : List ℕ) (n : ℕ) (row : Row) → All (λ place. place < length row) read → (ps : List Pair) (ss : List Sieve) → AllZip (IsSieveOf read) ps ss → list_all (meets_one n (key_of read row)) ss ≡ list_all (asks n row) ps
+sieves_ask read n row wide [] [] are = refl
+sieves_ask read n row wide [] (s ∷ ss) are = absurd are
+sieves_ask read n row wide (p ∷ ps) [] are = absurd are
+sieves_ask read n row wide (p ∷ ps) (s ∷ ss) are =
+    ap₂ (λ x y. x && y) (ap₂ (λ (gs : List Bool) (b : Bool). not (get_or gs n false) || b) are.0.granules (are.0.same row wide)) (sieves_ask read n row wide ps ss are.1)
 
-pub no_sieves : (read : List ℕ) (ps : List Pair) (ss : List Sieve) → ss ≡ [] → AllZip (IsSieveOf read) ps ss → ps ≡ []
-no_sieves read [] ss none h = refl
-no_sieves read (p ∷ ps) ss none h = absurd (subst (AllZip (IsSieveOf read) (p ∷ ps)) none h)
-
--- where a test is true of each item all are kept
-pub kept_whole : {X : Type 0} (f : X → Bool) (xs : List X) → map (λ x. true) xs ≡ map f xs → filter f xs ≡ xs
-kept_whole f xs same = sym (where_filter f xs) ∙ ap (λ m. where_true m xs) (sym same) ∙ where_filter (λ x. true) xs ∙ all_kept xs
-
--- ---- the rows of chosen granules
-
-module _ {X : Type 0} (g : ℕ) where
-  chosen_none : (chosen : List Bool) (xs : List X) → xs ≡ [] → chosen_of g chosen xs ≡ []
-  chosen_none [] xs none = refl
-  chosen_none (true ∷ chosen) xs none = ap₂ (λ ys zs. ys ++ zs) (take_none g xs none) (chosen_none chosen (drop g xs) (drop_none g xs none))
-  chosen_none (false ∷ chosen) xs none = chosen_none chosen (drop g xs) (drop_none g xs none)
-
-  -- the first chosen granule, and what is after it
-  module _ (chosen : List Bool) (xs : List X) where
-    abbrev rest : List X
-    rest = chosen_of g chosen (drop g xs)
-
-    pub first_chosen : (take g (take g xs ++ rest) ≡ take g xs) × (drop g (take g xs ++ rest) ≡ rest)
-    first_chosen = by (cases_lt (length xs) g)
-      where
-        by : (length xs < g) ⊎ (g ≤ length xs) → (take g (take g xs ++ rest) ≡ take g xs) × (drop g (take g xs ++ rest) ≡ rest)
-        by (inl less) =
-            let none : rest ≡ [] = chosen_none chosen (drop g xs) (drop_all g xs (omega (arith, less))) in
-            let few : length (take g xs) ≤ g = omega (arith, length-take g xs) in
-            let whole : take g xs ++ rest ≡ take g xs = ap (λ ys. take g xs ++ ys) none ∙ append-nil (take g xs) in
-            (ap (take g) whole ∙ take_all g (take g xs) few, ap (drop g) whole ∙ drop_all g (take g xs) few ∙ sym none)
-        by (inr more) =
-            let size : length (take g xs) ≡ g = omega (arith, length-take g xs, more) in
-            (ap (λ n. take n (take g xs ++ rest)) (sym size) ∙ take-append_seam (take g xs) rest, ap (λ n. drop n (take g xs ++ rest)) (sym size) ∙ drop-append_seam (take g xs) rest)
-
--- the answers of a granule in which it is not asked, and those after it
-sure_first : {X : Type 0} (f : X → Bool) (g : ℕ) (chosen a : List Bool) (xs : List X) → All (λ x. f x ≡ true) (take g xs) → AllTrue (unasked g chosen a (map f (chosen_of g chosen (drop g xs))))
-    → AllTrue (take g (map f (take g xs ++ chosen_of g chosen (drop g xs))) ++ unasked g chosen a (drop g (map f (take g xs ++ chosen_of g chosen (drop g xs)))))
-sure_first f g chosen a xs own others =
-    let whole = take g xs ++ chosen_of g chosen (drop g xs) in
-    let front : take g (map f whole) ≡ map f (take g xs) = take-map f g whole ∙ ap (map f) (first_chosen g chosen xs).0 in
-    let back : drop g (map f whole) ≡ map f (chosen_of g chosen (drop g xs)) = drop-map f g whole ∙ ap (map f) (first_chosen g chosen xs).1 in
-    subst AllTrue (sym (ap₂ (λ ys zs. ys ++ unasked g chosen a zs) front back))
-    (All-append (λ b. b ≡ true) (map f (take g xs)) (unasked g chosen a (map f (chosen_of g chosen (drop g xs)))) (All-map (λ b. b ≡ true) f (take g xs) own) others)
-
--- what is true of the items of granules in which it is not asked is true of their answers
-pub sure_items : {X : Type 0} (f : X → Bool) (g : ℕ) (chosen a : List Bool) (xs : List X) → All (λ x. f x ≡ true) (chosen_of g (unasked_of chosen a) xs) → AllTrue (unasked g chosen a (map f (chosen_of g chosen xs)))
-sure_items f g [] a xs sure = All-nil (λ b. b ≡ true)
-sure_items f g (false ∷ chosen) [] xs sure = sure_items f g chosen [] (drop g xs) sure
-sure_items f g (false ∷ chosen) (b ∷ a) xs sure = sure_items f g chosen a (drop g xs) sure
-sure_items f g (true ∷ chosen) (true ∷ a) xs sure =
-    let whole = take g xs ++ chosen_of g chosen (drop g xs) in
-    subst (λ ys. AllTrue (unasked g chosen a ys)) (sym (drop-map f g whole ∙ ap (map f) (first_chosen g chosen xs).1)) (sure_items f g chosen a (drop g xs) sure)
-sure_items f g (true ∷ chosen) (false ∷ a) xs sure = sure_first f g chosen a xs (all_parts (λ x. f x ≡ true) (take g xs) (chosen_of g (unasked_of chosen a) (drop g xs)) sure).0
-    (sure_items f g chosen a (drop g xs) (all_parts (λ x. f x ≡ true) (take g xs) (chosen_of g (unasked_of chosen a) (drop g xs)) sure).1)
-sure_items f g (true ∷ chosen) [] xs sure = sure_first f g chosen [] xs (all_parts (λ x. f x ≡ true) (take g xs) (chosen_of g (unasked_of chosen []) (drop g xs)) sure).0
-    (sure_items f g chosen [] (drop g xs) (all_parts (λ x. f x ≡ true) (take g xs) (chosen_of g (unasked_of chosen []) (drop g xs)) sure).1)
+pub all_parts : {X : Type 0} (P : X → Type 0) (xs ys : List X) → All P (xs ++ ys) → All P xs × All P ys
+all_parts P [] ys all = (All-nil P, all)
+all_parts P (x ∷ xs) ys all =
+    let rest = all_parts P xs ys (All-tail P x (xs ++ ys) all) in
+    (All-cons P x xs (All-head P x (xs ++ ys) all) rest.0, rest.1)
 
 -- ---- the columns that the conjuncts name
 

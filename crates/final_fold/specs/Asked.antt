@@ -6,9 +6,10 @@ use Rattle.mt_values.specs.Conditions.{Condition, conjuncts_of, tests_of}
 use Rattle.mt_values.specs.Order.{key_of}
 use Rattle.mt_values.specs.Tests.{eval}
 use Rattle.mt_values.specs.Values.{Row}
+use Rattle.row_merge.specs.part_reader.declared.sieves.Sieve.{Sieve}
 use Rattle.row_merge.specs.part_reader.Granules.{chosen_of}
+use Rattle.row_merge.specs.part_reader.Sieves.{Sifting, asking_of}
 use Rattle.final_fold.specs.declared.asking.Plan.{Plan}
-use Rattle.final_fold.specs.declared.asking.Sieve.{Sieve}
 use Rattle.final_fold.specs.declared.asking.Task.{Task}
 use Rattle.final_fold.specs.declared.asking.Wanted.{Wanted}
 use Rattle.final_fold.specs.Scans.{ArePlacesOf}
@@ -62,6 +63,14 @@ abbrev pub unasked_of : List Bool → List Bool → List Bool
 unasked_of [] asked = []
 unasked_of (c ∷ chosen) [] = c ∷ unasked_of chosen []
 unasked_of (c ∷ chosen) (a ∷ asked) = (c && not a) ∷ unasked_of chosen asked
+
+-- what is read of a part, and what is asked of its rows
+abbrev pub sifting_of_task : {F : Type 0} → Task F → Sifting F
+sifting_of_task task = record {
+  reading = record { schema = task.wanted.schema.now; part = task.part.now; places = task.wanted.places.now; left = task.chosen.now };
+  asked = task.plan.now.asked.items;
+  asking = asking_of task.plan.now.sieves.items;
+}
 
 -- where a conjunct is not asked in a chosen granule, each row of the granule meets it
 abbrev pub MeetUnasked : ℕ → List Bool → List (Condition Test) → List (List Bool) → List Row → Type 0

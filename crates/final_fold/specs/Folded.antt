@@ -1,5 +1,5 @@
 -- What FINAL sees of the parts of a table of which some granules are not read (docs/engines.md, "FINAL"; docs/architecture.md, "The way of a SELECT").
-use Rattle.std.specs.Prelude.{◌≡◌, ◌≤◌, ℕ, Bool, true, false, not, List, [], ◌∷◌, length, map, slice_get, All, Option, Some}
+use Rattle.std.specs.Prelude.{◌≡◌, ◌<◌, ◌≤◌, ◌^◌, ℕ, Bool, true, false, not, List, [], ◌∷◌, length, map, slice_get, All, Option, Some}
 use Rattle.std.specs.List.{AllPairs, AllZip, take_while}
 use Rattle.mt_base.specs.declared.partition.Partition.{Partition}
 use Rattle.mt_values.specs.declared.schema.Schema.{Schema}
@@ -66,6 +66,12 @@ abbrev pub SkipNoFold : Wanted → List (List Bool) → List (List Row) → Type
 SkipNoFold w chosen rows = AllZip (SkipsNoFold w) chosen rows
 
 -- ---- what is added
+
+-- columns without values got this many each, and kept their types; 32 bits count them
+pub record AreAdded (olds news : List Cells) (count : ℕ) : Type 0 where
+  pub even : All (λ (c : Cells). length c.values ≡ 0) olds → All (λ (c : Cells). length c.values ≡ count) news
+  pub types : map (λ (c : Cells). c.col_type) news ≡ map (λ (c : Cells). c.col_type) olds
+  pub few : count < 2 ^ 32
 
 -- columns got the values at the wanted places of the matches among what a merge of inputs leaves, and these are counted
 pub record AddsMerge (w : Wanted) (partition : Partition) (inputs : List (List Row)) (olds news : List Cells) (count : ℕ) : Type 0 where

@@ -1,11 +1,9 @@
--- Which rows meet a condition, and in which granules they are (docs/architecture.md, "The way of a SELECT").
-use Rattle.std.specs.Prelude.{◌≡◌, ℕ, Bool, true, false, cond, List, [], ◌∷◌, ◌++◌, length, map, take, drop, slice_get, All, Option, Some}
+-- Which rows meet a condition, and what a fault says of the parts in which they are (docs/architecture.md, "The way of a SELECT").
+use Rattle.std.specs.Prelude.{◌≡◌, ℕ, Bool, List, length, slice_get, Option, Some}
 use Rattle.std.specs.List.{AllZip, filter, zip}
 use Rattle.row_merge.specs.column_file.Marks.{granules}
 use Rattle.mt_values.specs.declared.expr.Test.{Test}
 use Rattle.mt_values.specs.Conditions.{Condition}
-use Rattle.mt_values.specs.Grid.{Cells}
-use Rattle.mt_values.specs.Lists.{where_true}
 use Rattle.mt_values.specs.Schemas.{column_types}
 use Rattle.mt_values.specs.Tests.{eval}
 use Rattle.mt_values.specs.Values.{Row}
@@ -14,15 +12,12 @@ use Rattle.table_core.specs.part_name.declared.part.PartName.{PartName}
 use Rattle.row_merge.specs.part_reader.declared.reading.Part.{Part}
 use Rattle.row_merge.specs.part_reader.declared.reading.PartFault.{PartFault}
 use Rattle.row_merge.specs.part_reader.Faults.{ExplainsAt}
-use Rattle.row_merge.specs.part_reader.Granules.{ExplainsChosen, chosen_count, chosen_of, column_in}
-use Rattle.row_merge.specs.part_reader.Parts.{PartHolds}
+use Rattle.row_merge.specs.part_reader.Granules.{ExplainsChosen, chosen_of, column_in}
 use Rattle.row_merge.specs.part_set.declared.kept.Kept.{Kept}
-use Rattle.final_fold.specs.declared.asking.Task.{Task}
+use Rattle.select_plan.specs.Plans.{asked_each}
 use Rattle.final_fold.specs.declared.asking.Wanted.{Wanted}
-use Rattle.final_fold.specs.declared.found.Matches.{Matches}
 pub use Rattle.final_fold.specs.Asked.{some_true}
-use Rattle.final_fold.specs.Asked.{AreSure, MeetUnasked, chosen_rows, named}
-use Rattle.final_fold.specs.Scans.{HaveTypes, values_at}
+use Rattle.final_fold.specs.Asked.{MeetUnasked, named}
 
 -- the rows that meet a condition, in order (ClickHouse, SELECT: WHERE)
 abbrev pub matching : Condition Test → List Row → List Row
@@ -43,45 +38,15 @@ abbrev pub MeetWhereUnasked : Wanted → List (List Bool) → List (List (List B
 MeetWhereUnasked w chosen asked rows =
     AllZip (λ p r. MeetUnasked w.schema.now.granularity p.0 w.conjuncts.now p.1 r) (zip chosen asked) rows
 
--- how many answers of a mask are true
-abbrev pub count_true : List Bool → ℕ
-count_true mask = length (where_true mask mask)
-
--- of the chosen granules those with a row for which the mask of their rows is true
-abbrev pub granules_met : ℕ → List Bool → List Bool → List Bool
-granules_met g [] mask = []
-granules_met g (true ∷ chosen) mask = some_true (take g mask) ∷ granules_met g chosen (drop g mask)
-granules_met g (false ∷ chosen) mask = false ∷ granules_met g chosen mask
-
--- the mask of the rows of these
-abbrev pub mask_met : ℕ → List Bool → List Bool → List Bool
-mask_met g [] mask = []
-mask_met g (true ∷ chosen) mask = cond (some_true (take g mask)) (take g mask) [] ++ mask_met g chosen (drop g mask)
-mask_met g (false ∷ chosen) mask = mask_met g chosen mask
-
--- the columns of the conjuncts that are asked, as they are in the chosen granules, and which rows of these meet the condition
-pub record AreMatches {F : Type 0} (files_of : F → Option Files) (task : Task F) (m : Matches) : Type 0 where
-  pub types : HaveTypes task.wanted.schema.now task.plan.now.asked.items m.columns.items
-  pub even : All (λ (c : Cells). length c.values ≡ length m.mask.items) m.columns.items
-  pub count : length m.mask.items ≡ chosen_count task.part.now.loaded.schema.granularity task.chosen.now task.part.now.loaded.manifest.rows
-  pub granules : m.granules.items ≡ granules_met task.part.now.loaded.schema.granularity task.chosen.now m.mask.items
-  pub kept : m.kept.items ≡ mask_met task.part.now.loaded.schema.granularity task.chosen.now m.mask.items
-  pub mask : (rows : List Row) → PartHolds files_of task.wanted.schema.now task.part.now rows → AreSure task rows → m.mask.items ≡ map (eval task.wanted.condition.now) (chosen_rows task rows)
-  pub values : (rows : List Row) → PartHolds files_of task.wanted.schema.now task.part.now rows
-      → map (λ (c : Cells). c.values) m.columns.items ≡ values_at (chosen_rows task rows) task.plan.now.asked.items
+-- in which of the chosen granules of each part each conjunct is asked: by the marks of the part (docs/definitions.md, "Boxes of granules")
+abbrev pub asked_of : {F : Type 0} → Wanted → List (Kept (Part F)) → List (List Bool) → List (List (List Bool))
+asked_of w parts chosen = asked_each w.schema.now w.conjuncts.now parts chosen
 
 -- ---- damage
 
--- each granule that is read is a chosen one
-abbrev pub AreAmong : List Bool → List Bool → Type 0
-AreAmong read chosen = (granule : ℕ) → slice_get read granule ≡ Some true → slice_get chosen granule ≡ Some true
-
--- what a fault says of a part: it is of a column that may be read, read as one of its type in granules that are chosen; of each it is said whether it was read
-pub record ExplainsAsked {F : Type 0} (files_of : F → Option Files) (part : Part F) (chosen : List Bool) (wanted : Wanted) (fault : PartFault) : Type 0 where
-  pub read : List Bool
-  pub even : length read ≡ length chosen
-  pub among : AreAmong read chosen
-  pub explained : ExplainsAt (λ number t. ExplainsChosen (column_in files_of part number) read t) (column_types wanted.schema.now) (named wanted) fault
+-- what a fault says of a part: it is of a column that may be read, read as one of its type in the chosen granules
+abbrev pub ExplainsAsked : {F : Type 0} → (F → Option Files) → Part F → List Bool → Wanted → PartFault → Type 0
+ExplainsAsked files_of part chosen wanted fault = ExplainsAt (λ number t. ExplainsChosen (column_in files_of part number) chosen t) (column_types wanted.schema.now) (named wanted) fault
 
 -- what a fault says of one of the parts, by its name
 pub record ExplainsMatches {F : Type 0} (files_of : F → Option Files) (parts : List (Kept (Part F))) (chosen : List (List Bool)) (wanted : Wanted) (e : PartName × PartFault) : Type 0 where

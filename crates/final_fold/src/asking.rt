@@ -11,7 +11,7 @@ use crate::counts::some_true;
 use crate::pick_columns;
 use mt_base::{NoMemory, Seq, Twin};
 use mt_values::{Expr, Schema, Test};
-use row_merge::part_reader::Part;
+use row_merge::part_reader::{Part, Sieve};
 use std::alloc::Global;
 
 /// What is wanted of the rows of a table's parts.
@@ -32,14 +32,6 @@ pub struct Wanted<'a> {
 struct Conjunct<'c, 'a> {
     condition: &'c Expr<Test>,
     granules: &'a [bool],
-}
-
-/// A conjunct over the columns that are read of a part, and whether it is asked in each granule.
-#[derive(Drop)]
-pub(crate) struct Sieve<'a> {
-    /// Its tests name columns by their positions among those that are read.
-    pub condition: Expr<Test>,
-    pub granules: &'a [bool],
 }
 
 /// How a condition is asked of a part.
@@ -194,7 +186,7 @@ fn at_positions(alloc: Global, tests: &[Test], positions: &[u32]) -> Result<Seq<
     requires { length positions.now ≡ length tests.now }
     ensures { IfOk result (λ moved. moved ≡ moved_to positions.now tests.now) }
 {
-    let mut moved = Seq::new(alloc);
+    let mut moved = Seq::with_capacity(alloc, tests.len())?;
     for (number, test) in tests.iter().enumerate() {
         moved.push(Test {
             column: positions[number],

@@ -1,6 +1,6 @@
-// How many rows parts have, and how many answers of a mask are true.
+// How many rows parts have, and whether an answer of a mask is true.
 ghost use Rattle.std.specs.Prelude.{◌≡◌, ◌+◌, ◌<◌, ◌^◌, IfSome};
-ghost use Rattle.final_fold.specs.Matches.{count_true, some_true};
+ghost use Rattle.final_fold.specs.Matches.{some_true};
 ghost use Rattle.final_fold.specs.Scans.{rows_kept};
 
 use mt_base::Rows;
@@ -32,20 +32,6 @@ pub(crate) fn join_counts(some: usize, others: usize) -> Option<usize>
         return None;
     }
     Some(sum)
-}
-
-/// How many answers of a mask are true.
-pub(crate) fn count_true(mask: &[bool]) -> usize
-    ensures { result ≡ count_true mask.now }
-{
-    let mut count: usize = 0;
-    for is_true in mask {
-        if !*is_true {
-            continue;
-        }
-        count += 1;
-    }
-    count
 }
 
 /// Whether an answer of a mask is true.

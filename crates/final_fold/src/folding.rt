@@ -1,7 +1,7 @@
 // The rows that FINAL sees of a table's parts: those of the chosen granules, merged partition by partition by the rule of the table's
 // engine (docs/engines.md, "FINAL"). A key of which a granule was not read is one of which no row meets the condition, so of its rows
 // none is missed.
-ghost use Rattle.std.specs.Prelude.{◌≡◌, ◌<◌, ◌+◌, ◌^◌, ◌∷◌, [], ℕ, All, IfErr, IfOk, IsErrAnd, List, OnOk, filter_map, length, map, slice_get};
+ghost use Rattle.std.specs.Prelude.{◌≡◌, ◌<◌, ◌+◌, ◌∷◌, [], ℕ, All, IfErr, IfOk, IsErrAnd, List, OnOk, filter_map, length, map, slice_get};
 ghost use Rattle.mt_base.specs.declared.partition.Partition.{Partition};
 ghost use Rattle.table_core.specs.mt_model.History.{IsTableSchema};
 ghost use Rattle.mt_outside.specs.Leaves.{LeavesArm};
@@ -13,7 +13,8 @@ ghost use Rattle.row_merge.specs.part_set.declared.kept.Kept.{Kept};
 ghost use Rattle.row_merge.specs.primary_marks.Keys.{HasMarks};
 ghost use Rattle.row_merge.specs.Merged.{ArePartRows, inputs_of};
 ghost use Rattle.final_fold.specs.Asked.{IsWanted};
-ghost use Rattle.final_fold.specs.Folded.{AddsFold, AddsMerge, AreOfPartitions, ExplainsFold, IsFolded, SkipNoFold, StandByPartition, count_in};
+ghost use Rattle.final_fold.specs.Folded.{AddsFold, AddsMerge, AreAdded, AreOfPartitions, ExplainsFold, IsFolded, SkipNoFold, StandByPartition, count_in};
+ghost use Rattle.final_fold.specs.Matches.{matching};
 ghost use Rattle.row_merge.specs.MergedParts.{PartsHold};
 ghost use Rattle.final_fold.specs.Scans.{HaveTypes, joined_rows, values_at};
 
@@ -59,11 +60,7 @@ pub fn final_rows<R: Arm>(
         → SkipNoFold wanted.now chosen.now rows
         → map (λ (c : Cells). c.values) columns.old ≡ values_at [] wanted.now.places.now
         → IfOk result (IsFolded wanted.now (joined_rows rows) columns.new) }
-    ensures even { All (λ (c : Cells). length c.values ≡ 0) columns.old
-        → IfOk result (λ count. All (λ (c : Cells). length c.values ≡ count) columns.new) }
-    ensures types { OnOk result (map (λ (c : Cells). c.col_type) columns.new ≡ map
-        (λ (c : Cells). c.col_type) columns.old) }
-    ensures few { IfOk result (λ count. count < 2 ^ 32) }
+    ensures added { IfOk result (AreAdded columns.old columns.new) }
 
     // What a fault says.
     ensures damaged { IfErr result (ExplainsFold R.Dir.files parts.now chosen.now wanted.now) }
@@ -167,8 +164,29 @@ fn add_merged(
         (λ (c : Cells). c.col_type) columns.old) }
 {
     let merged = merge_rows(alloc, wanted.schema, inputs)?;
+    let count = add_kept(wanted, merged.as_slice(), columns)?;
+    Ok(count)
+}
+
+/// Adds those of the rows that meet the condition to columns: of each the values at the wanted places. Returns how many they are.
+///
+/// `NoMemory` where an allocation failed; some of the values may have been added.
+fn add_kept(wanted: &Wanted, rows: &[Row], columns: &mut [ColumnData]) -> Result<usize, NoMemory>
+    requires wanted { IsWanted wanted.now }
+    requires columns { HaveTypes wanted.now.schema.now wanted.now.places.now columns.old }
+    requires typed { AreRowsOf (column_types wanted.now.schema.now) rows.now }
+    ensures values { OnOk result
+        (columns.new ≡ with_columns (matching wanted.now.condition.now rows.now)
+        wanted.now.places.now columns.old) }
+    ensures counted { IfOk result
+        (λ count. count ≡ length (matching wanted.now.condition.now rows.now)) }
+    ensures even { (n : ℕ) → All (λ (c : Cells). length c.values ≡ n) columns.old
+        → IfOk result (λ count. All (λ (c : Cells). length c.values ≡ n + count) columns.new) }
+    ensures types { OnOk result (map (λ (c : Cells). c.col_type) columns.new ≡ map
+        (λ (c : Cells). c.col_type) columns.old) }
+{
     let mut count: usize = 0;
-    for row in &merged {
+    for row in rows {
         if !wanted.condition.eval(row) {
             continue;
         }

@@ -120,7 +120,7 @@ pub fn final_rows_do_not_depend_on_events()
 {}
 
 /// What is told of parts that hold rows of their table is no damage: where columns of chosen granules were read, with FINAL or without it,
-/// and it is said of each granule whether it is chosen; and where all columns were read whole.
+/// and it is said of each granule whether it is chosen; and where the granules of all columns were read one by one.
 pub fn parts_with_rows_are_not_damaged<F>()
     ensures matches { (files_of : F → Option Files) (w : Wanted) (parts : List (Kept (Part F)))
         (chosen : List (List Bool)) (rows : List (List Row)) (e : PartName × PartFault)

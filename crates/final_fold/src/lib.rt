@@ -6,11 +6,9 @@ mod asking;
 mod chosen;
 mod counts;
 mod folding;
-mod found;
 mod laws;
 mod matches;
 mod picked;
-mod sifting;
 
 pub use asking::Wanted;
 pub use counts::count_rows;
@@ -23,3 +21,4 @@ pub use laws::{
 pub use matches::add_matches;
 pub use picked::{Picked, pick_columns};
 pub use row_merge;
+pub use select_plan;

@@ -2,7 +2,7 @@ use Rattle.std.proofs.Common.{◌≡◌, ◌∙◌, ◌+◌, ◌++◌, ◌∷◌
 use Rattle.std.specs.List.{AllZip}
 use Rattle.std.proofs.lemmas.List.{take_all, take_more}
 use Rattle.final_fold.specs.declared.asking.Conjunct.{Conjunct}
-use Rattle.final_fold.specs.declared.asking.Sieve.{Sieve}
+use Rattle.row_merge.specs.part_reader.declared.sieves.Sieve.{Sieve}
 use Rattle.final_fold.specs.Asked.{IsSieveOf, tested}
 use Rattle.final_fold.proofs.Making.{flat_next, length-tested, others_shown, own_shown}
 use Rattle.final_fold.proofs.Sure.{zip_push}

@@ -13,7 +13,7 @@ use Rattle.final_fold.specs.Scans.{joined_rows}
 use Rattle.final_fold.proofs.FoldedRuns.{run_added, run_explained, run_new, run_parts, run_some, run_within}
 use Rattle.final_fold.proofs.PartitionRuns.{IsNew, zip_drop, zip_many, zip_take}
 use Rattle.final_fold.proofs.folding.final_rows.Goals as goal
-use Rattle.final_fold.proofs.folding.final_rows.Goals.{After-count_in, After-from_residual}
+use Rattle.final_fold.proofs.folding.final_rows.Goals.{After-count_in}
 use Rattle.final_fold.proofs.folding.final_rows.Given.{Over}
 
 -- how many parts are of the partition
@@ -97,3 +97,8 @@ returns-clause-values g c = λ rows order holds own skips empty.
     let many = zip_many (λ k r. PartHolds g.R.Dir.Dir.files w.schema.now k.part r) c.args.parts.now rows holds in
     subst (λ rs. IsFolded w (joined_rows rs) c.loop-at.columns c.loop-at.count) (take_all c.loop-at.at rows (omega (arith, many, c.loop-at-test.false)))
     (c.loop-at.invariant.values rows order holds own skips empty)
+
+pub returns-clause-added : goal.returns-clause-added
+returns-clause-added g c =
+    let gone_over = c.loop-at.invariant in
+    record { even = gone_over.even; types = gone_over.types; few = gone_over.few }
