@@ -24,13 +24,13 @@ use Rattle.root_store.specs.part_set.declared.set.PartSet.{PartSet}
 use Rattle.root_store.specs.part_set.Sets.{parts_of}
 use Rattle.root_store.specs.part_history.declared.part.CorePart.{CorePart}
 use Rattle.root_store.specs.part_history.Parts.{AreInBlockOrder, PartStands, TableStands}
-use Rattle.root_store.proofs.PartHistoryGrowing.{table_kept}
+use Rattle.root_store.proofs.PartHistoryGrowing.{mutations_still, table_kept}
 use Rattle.root_store.specs.declared.store.CoreStore.{CoreStore}
 use Rattle.root_store.specs.declared.store.Table.{Table}
 use Rattle.root_store.specs.Stores.{fresh_table}
 use Rattle.root_commits.specs.Commits.{EntersTable}
 use Rattle.root_store.specs.Stores.{CoreStands, PartsAreThere, core_parts, table_at}
-use Rattle.root_commits.proofs.SameStores.{no_mutation}
+use Rattle.root_commits.proofs.SameStores.{same_queue}
 use Rattle.root_commits.proofs.Updated.{it_or, one_some}
 
 pub first_none : (o : Option Schema) → first_of o None ≡ o
@@ -48,6 +48,14 @@ none_after t before (e ∷ h) legal none = by e.command legal.0 (none_after t (b
         named : (b : Bool) → same_bytes i.table t ≡ b → cond b (command.Insert i ∷ numbered t h) (numbered t h) ≡ []
         named true same =
             let here : schema_of t before ≡ Some allowed.0 = ap (λ u. schema_of u before) (sym (same_is i.table t same)) ∙ allowed.1 in
+            let found : None ≡ Some allowed.0 = sym none ∙ schema_kept t before (e ∷ h) allowed.0 here in
+            cc
+        named false apart = rest
+    by (command.Alter a) allowed rest = named (same_bytes a.table t) refl
+      where
+        named : (b : Bool) → same_bytes a.table t ≡ b → cond b (command.Alter a ∷ numbered t h) (numbered t h) ≡ []
+        named true same =
+            let here : schema_of t before ≡ Some allowed.0 = ap (λ u. schema_of u before) (sym (same_is a.table t same)) ∙ allowed.1 in
             let found : None ≡ Some allowed.0 = sym none ∙ schema_kept t before (e ∷ h) allowed.0 here in
             cc
         named false apart = rest
@@ -142,7 +150,8 @@ module _ {F : Type 0} (files_of : F → Option Files) (h : History) (old new : C
         drawn = λ t x is. drawn_at t x is (here t);
         parts = λ t x is. parts_at t x is (here t);
         no_other = λ t none. none_at t none (here t);
-        mutations = no_mutation old new a.mutations_are s.mutations;
+        mutations = λ t. same_queue old new a.mutations_are t ∙ (s.mutations t ∙ sym (mutations_still t h e refl));
+        unaltered = λ t. mutations_still t h e refl ∙ s.unaltered t;
       }
     where
       tables_at : (t : List ℕ) → IsNewOr t → option_map (λ (x : Table). x.schema) (table_at new t) ≡ schema_of t (h ++ e ∷ [])

@@ -31,7 +31,7 @@ use Rattle.root_store.specs.part_history.declared.part.CorePart.{CorePart}
 use Rattle.root_store.specs.part_history.Parts.{TableStands, core_parts_of}
 use Rattle.root_store.specs.part_history.Entered.{next_number, part_of_insert}
 use Rattle.root_store.proofs.PartHistoryApart.{ends_below}
-use Rattle.root_store.proofs.PartHistoryGrowing.{drawn_apart, table_grown, table_kept}
+use Rattle.root_store.proofs.PartHistoryGrowing.{drawn_apart, mutations_inserted, mutations_still, table_grown, table_kept}
 use Rattle.root_store.specs.ByteOrder.{AreInByteOrder}
 use Rattle.root_store.proofs.PartHistoryNumbered.{legal_schema}
 use Rattle.root_commits.specs.Commits.{fresh_part}
@@ -91,6 +91,7 @@ module _ (names : Names) (h : History) (session : ℕ) (c : Create) (files : Fil
     read = made;
     are = are_read (root.Create c.table) word names files s.read s.are;
     unmutated = λ part has. s.unmutated part (part_was s.read c.table part has);
+    unaltered = λ t. mutations_still t h (last h session c) refl ∙ s.unaltered t;
     entries = entry_there;
     no_other = entry_of_one;
     parts = s.parts;
@@ -212,6 +213,7 @@ module _ (names : Names) (h : History) (session : ℕ) (i : Insert) (schema : Sc
       | inl old ↦ s.unmutated part old
       | inr same ↦ sym (ap (λ (p : TablePart). p.name.mutation) same)
     ];
+    unaltered = λ t. mutations_inserted t h session i ∙ s.unaltered t;
     entries = λ p name named_is. elim (placed_push h entry p.before p.entry p.after p.is) [
       | inl old ↦ folder_kept names text files name (HoldsEntry p.before p.entry.command) free (s.entries (record { before = p.before; entry = p.entry; after = old.0; is = old.1 }) name named_is)
       | inr new_one ↦ absurd (no_entry name (ap (λ (x : Entry). entry_name p.before x.command) new_one ∙ named_is))

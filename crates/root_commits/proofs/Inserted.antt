@@ -25,7 +25,7 @@ use Rattle.root_store.specs.part_set.Sets.{parts_of}
 use Rattle.root_store.specs.part_history.declared.part.CorePart.{CorePart}
 use Rattle.root_store.specs.part_history.Parts.{AreInBlockOrder, TableStands}
 use Rattle.root_store.specs.part_history.Entered.{part_of_insert}
-use Rattle.root_store.proofs.PartHistoryGrowing.{drawn_apart, drawn_here, table_grown, table_kept}
+use Rattle.root_store.proofs.PartHistoryGrowing.{drawn_apart, drawn_here, mutations_inserted, table_grown, table_kept}
 use Rattle.root_store.specs.declared.store.CoreStore.{CoreStore}
 use Rattle.root_store.specs.declared.store.Table.{Table}
 use Rattle.root_commits.specs.Commits.{EntersSealed, IsSealedOf, fresh_part, insert_into, insert_of_block, part_rows, partition_of_block}
@@ -33,7 +33,7 @@ use Rattle.root_store.specs.Stores.{CoreStands, PartsAreThere, core_part, core_p
 use Rattle.root_commits.proofs.Entering.{first_none}
 use Rattle.root_commits.proofs.Placed.{core_insert, table_moved, zip_insert}
 use Rattle.root_store.proofs.InOrder.{core_order}
-use Rattle.root_commits.proofs.SameStores.{no_mutation}
+use Rattle.root_commits.proofs.SameStores.{same_queue}
 use Rattle.root_commits.proofs.Updated.{it_or, no_some, one_some}
 
 module _ {F : Type 0} (files_of : F → Option Files) (h : History) (old new : CoreStore F) (session : ℕ) (table : List ℕ) (t : Table) (block : Grid) (sealed : Option Files) (loaded : Loaded)
@@ -151,7 +151,8 @@ module _ {F : Type 0} (files_of : F → Option Files) (h : History) (old new : C
         drawn = λ u x at. drawn_at u x at (here u);
         parts = λ u x at. parts_at u x at (here u);
         no_other = λ u none. none_at u none (here u);
-        mutations = no_mutation old new a.enters.mutations_are s.mutations;
+        mutations = λ u. same_queue old new a.enters.mutations_are u ∙ (s.mutations u ∙ sym (mutations_inserted u h session i));
+        unaltered = λ u. mutations_inserted u h session i ∙ s.unaltered u;
       }
     where
       tables_at : (u : List ℕ) → IsItOr u → option_map (λ (x : Table). x.schema) (table_at new u) ≡ schema_of u (h ++ e ∷ [])

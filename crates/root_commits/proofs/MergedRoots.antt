@@ -275,6 +275,7 @@ module _ (names : Names) (h : History) (s : Stands names h) (new : TablePart) (r
       | inl old ↦ s.unmutated part old
       | inr same ↦ ap (λ (p : TablePart). p.name.mutation) (sym same) ∙ plain
     ];
+    unaltered = s.unaltered;
     entries = λ p name named_is. folder_kept names text files name (HoldsEntry p.before p.entry.command) free (s.entries p name named_is);
     no_other = λ n has of_entry. elim (read_or_new (root.Part new) s.read n has) [
       | inl old ↦ s.no_other n old of_entry

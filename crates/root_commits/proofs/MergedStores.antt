@@ -8,6 +8,7 @@ use Rattle.std.specs.Cmp.Lexicographic.{slice_cmp}
 use Rattle.std.specs.Option.{option_map}
 use Rattle.std.specs.Ordering.{nat_cmp}
 use Rattle.mt_base.specs.declared.partition.Partition.{Partition}
+use Rattle.mt_values.specs.declared.mutation.Mutation.{Mutation}
 use Rattle.mt_values.specs.declared.schema.Schema.{Schema}
 use Rattle.mt_values.specs.Grammar.{same_bytes}
 use Rattle.mt_values.specs.Values.{Row}
@@ -26,9 +27,10 @@ use Rattle.root_store.specs.part_set.Sets.{parts_of}
 use Rattle.root_store.proofs.PartSetItems.{item_first}
 use Rattle.root_store.proofs.PartSetMaps.{true_or_false}
 use Rattle.root_store.specs.part_history.declared.part.CorePart.{CorePart}
-use Rattle.root_store.specs.part_history.Merges.{IsMergedPart, with_rows}
+use Rattle.root_store.specs.part_name.Pending.{NoneParted}
+use Rattle.root_store.specs.part_history.Merges.{IsMergedPart, names_of, with_rows}
 use Rattle.root_store.specs.part_history.Parts.{AreInBlockOrder, PartStands, TableStands}
-use Rattle.root_store.proofs.PartHistoryMerging.{merged_stand}
+use Rattle.root_store.proofs.PartHistoryMerging.{merged_stand, unparted_none}
 use Rattle.root_store.specs.table_core.declared.event.Sources.{Sources}
 use Rattle.root_store.specs.table_core.declared.store.Run.{Run}
 use Rattle.root_store.specs.table_core.Store.{parts_below}
@@ -40,7 +42,7 @@ use Rattle.root_store.proofs.InOrder.{core_order}
 use Rattle.root_commits.specs.Events.{merged_sources}
 use Rattle.root_commits.specs.Merges.{EntersMerge, HoldsMerge, Merging, SealsMerge, SealsMergeOfParts, name_of_merge, source_names, sources_of}
 use Rattle.root_commits.proofs.MergedNames.{run_own, run_partition}
-use Rattle.root_commits.proofs.SameStores.{no_mutation}
+use Rattle.root_commits.proofs.SameStores.{same_queue}
 use Rattle.root_commits.proofs.RunRows.{part_names, parts_own, reached_stand, rows_of_run, run_among, run_hold, run_neighbours, stand_reached}
 
 -- ---- parts with their rows, in two
@@ -103,6 +105,7 @@ module _ {F : Type 0} (files_of : F → Option Files) (h : History) (store : Cor
   is_merge inputs hold = record {
     named = ap merged_of (part_names Hold m.table those inputs hold) ∙ name_is;
     own = All-from_recursion (λ (p : CorePart). p.name.partition ≡ name.partition) (core_parts m.table those inputs) (parts_own Hold (λ (p : Partition). p ≡ name.partition) m.table those inputs hold own);
+    unparted = subst (λ (ms : List Mutation). NoneParted ms (names_of (core_parts m.table those inputs))) (sym (s.unaltered m.table)) (unparted_none (names_of (core_parts m.table those inputs)));
     leaves = record {
       inputs = is.inputs;
       stand = subst (λ (k : History). AllZip (λ (p : CorePart) (r : List Row). PartStands k (with_rows p r)) (core_parts m.table those inputs) is.inputs) (sym is.grown) (reached_stand Hold is.front is.more m.table those inputs is.inputs hold is.reach);
@@ -351,5 +354,6 @@ module _ {F : Type 0} (files_of : F → Option Files) (h : History) (old new : C
       drawn = λ u x found. s.drawn u x (sym (here u) ∙ found);
       parts = λ u x found. parts_at u x (sym (here u) ∙ found);
       no_other = λ u none. none_at u (sym (here u) ∙ none);
-      mutations = no_mutation old new a.mutations_are s.mutations;
+      mutations = λ u. same_queue old new a.mutations_are u ∙ s.mutations u;
+      unaltered = s.unaltered;
     }

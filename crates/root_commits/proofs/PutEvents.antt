@@ -11,6 +11,7 @@ use Rattle.std.specs.Cmp.Lexicographic.{slice_cmp}
 use Rattle.std.specs.Option.{option_map}
 use Rattle.std.specs.Ordering.{is_lt, nat_cmp}
 use Rattle.mt_base.specs.declared.partition.Partition.{Partition}
+use Rattle.mt_values.specs.declared.mutation.Mutation.{Mutation}
 use Rattle.mt_values.specs.declared.schema.Schema.{Schema}
 use Rattle.mt_values.specs.Grammar.{same_bytes}
 use Rattle.mt_values.specs.Values.{Row}
@@ -29,6 +30,7 @@ use Rattle.root_store.specs.part_set.Sets.{parts_of}
 use Rattle.root_store.proofs.PartSetItems.{item_first}
 use Rattle.root_store.proofs.PartSetMaps.{true_or_false}
 use Rattle.root_store.specs.part_history.declared.part.CorePart.{CorePart}
+use Rattle.root_store.specs.part_name.Pending.{NoneParted}
 use Rattle.root_store.specs.part_history.Merges.{MergeLeaves, names_of, with_rows}
 use Rattle.root_store.specs.part_name.Merged.{merged_of}
 use Rattle.root_store.specs.part_history.Parts.{AreInBlockOrder, PartStands, block_cmp, core_parts_of, has_block}
@@ -37,6 +39,7 @@ use Rattle.root_store.specs.table_core.declared.store.Run.{Run}
 use Rattle.root_store.specs.table_core.Core.{Core}
 use Rattle.root_store.specs.table_core.Steps.{HasNeighbours, SwapsParts, sources_among}
 use Rattle.root_store.specs.table_core.Store.{parts_below}
+use Rattle.root_store.proofs.PartHistoryMerging.{unparted_none}
 use Rattle.root_store.proofs.TableCoreNeighbours.{sources_stand}
 use Rattle.root_store.specs.declared.store.CoreStore.{CoreStore}
 use Rattle.root_store.specs.declared.store.Table.{Table}
@@ -444,6 +447,8 @@ module _ {F : Type 0} (files_of : F → Option Files) (core : Core) (old new : C
     gives = record {
       there = ap is_some known;
       neighbours = subst (λ (ps : List CorePart). HasNeighbours ps run_sources) (sym there.same) neighbours;
+      unparted = subst (λ (ms : List Mutation). NoneParted ms (names_of (sources_among (core_parts_of m.table core.parts) run_sources))) (sym (s.stands.unaltered m.table))
+          (unparted_none (names_of (sources_among (core_parts_of m.table core.parts) run_sources)));
       named = ap (λ (ps : List CorePart). merged_of (names_of ps)) beside_is ∙ (ap merged_of (part_names Holds m.table those shown_inputs shown_hold) ∙ name_is);
       room = low;
       parts = swaps;

@@ -25,9 +25,13 @@ use Rattle.root_store.specs.Stores.{CoreStands, HasNoMutation, core_parts, table
 pub same_itself : {F : Type 0} (store : CoreStore F) → SameStore store store
 same_itself store = record { tables = refl; parts = λ t. refl; mutations_are = refl; length_is = refl; opened_is = refl }
 
--- the same queues have no mutation
+-- the same queues have the same mutations
+pub same_queue : {F : Type 0} (old new : CoreStore F) → new.mutations ≡ old.mutations → (t : List ℕ) → mutations_of new.mutations t ≡ mutations_of old.mutations t
+same_queue old new same t = ap (λ (queue : Mutations). mutations_of queue t) same
+
+-- so they have none where there was none
 pub no_mutation : {F : Type 0} (old new : CoreStore F) → new.mutations ≡ old.mutations → HasNoMutation old → HasNoMutation new
-no_mutation old new same none = λ t. ap (λ (queue : Mutations). mutations_of queue t) same ∙ none t
+no_mutation old new same none = λ t. same_queue old new same t ∙ none t
 
 module _ {F : Type 0} (files_of : F → Option Files) where
   abbrev Hold : Schema → List (Kept (Part F)) → List (List Row) → Type 0
@@ -49,7 +53,8 @@ module _ {F : Type 0} (files_of : F → Option Files) where
           order = subst (λ (ks : List (Kept (Part F))). AreInBlockOrder (core_parts t ks p.rows)) (sym (same.parts t)) p.order;
         };
     no_other = λ t none. same.parts t ∙ s.no_other t (sym (here t) ∙ none);
-    mutations = no_mutation old new same.mutations_are s.mutations;
+    mutations = λ t. same_queue old new same.mutations_are t ∙ s.mutations t;
+    unaltered = s.unaltered;
   }
     where
       here : (t : List ℕ) → table_at new t ≡ table_at old t

@@ -35,7 +35,7 @@ use Rattle.root_store.proofs.Tabled.{are_tables, tables_in}
 last_there : (names : Names) (h : History) (s : Stands names h) (table : List ℕ) → 0 < length (numbered table h) → (part : TablePart) × HasPart s.read part × (part.table ≡ table) × (length (numbered table h) ≤ part.name.max_block)
 last_there names h s table some =
     let n = length (numbered table h) in
-    let last = insert_drawn table h n (omega (arith, some)) (omega arith) in
+    let last = insert_drawn table h n (s.unaltered table) (omega (arith, some)) (omega arith) in
     let partition = last.0 in
     let once = (s.stand table).once partition n last.1 in
     let found = counted_one (has_block partition n) (core_parts_of table s.parts) (omega (arith, once)) in

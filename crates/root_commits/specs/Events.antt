@@ -8,6 +8,7 @@ use Rattle.root_store.specs.table_core.declared.event.Event.TheVariants as event
 use Rattle.root_store.specs.table_core.declared.event.Outcome.TheVariants as outcome
 use Rattle.root_store.specs.table_core.declared.event.Put.{Put}
 use Rattle.root_store.specs.table_core.declared.event.Sources.{Sources}
+use Rattle.root_store.specs.table_core.declared.event.Task.TheVariants as task
 use Rattle.root_store.specs.table_core.Core.{Core}
 use Rattle.root_store.specs.table_core.Steps.{GivesOutcome, MayAccept, MayCome}
 use Rattle.root_store.specs.declared.store.CoreStore.{CoreStore}
@@ -27,7 +28,7 @@ merged_sources m = record { table = m.table; partition = m.partition; first = m.
 
 -- what a merge of them left, to be put in their place
 abbrev pub put_of : Merging → List Row → Put
-put_of m rows = record { sources = merged_sources m; rows = rows }
+put_of m rows = record { sources = merged_sources m; task = task.Merge; rows = rows }
 
 -- a put of a merge may come, the core gives the part under its name, and the store shows the state that it gives
 pub record IsPut {F : Type 0} (files_of : F → Option Files) (core : Core) (m : Merging) (store : CoreStore F) : Type 0 where

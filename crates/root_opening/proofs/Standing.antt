@@ -288,7 +288,7 @@ module _ {F : Type 0} (files_of : F → Option Files) (names : Names) (h : Histo
       reached (inr none) = omega (arith, none)
       reached (inl some) =
           let n = length (numbered table h) in
-          let last = insert_drawn table h n (omega (arith, some)) (omega arith) in
+          let last = insert_drawn table h n (s.unaltered table) (omega (arith, some)) (omega arith) in
           let partition = last.0 in
           let once = (s.stand table).once partition n last.1 in
           let found = counted_one (has_block partition n) (core_parts_of table s.parts) (omega (arith, once)) in
@@ -339,5 +339,6 @@ module _ {F : Type 0} (files_of : F → Option Files) (names : Names) (h : Histo
     drawn = drawn_is;
     parts = λ table t at. parts_there table t.schema (schema_at table t at) t at refl;
     no_other = no_parts;
-    mutations = o.mutations;
+    mutations = λ table. o.mutations table ∙ sym (s.unaltered table);
+    unaltered = s.unaltered;
   }

@@ -2,7 +2,7 @@
 use Rattle.std.proofs.Common.{◌≡◌, ℕ, ◌≤◌, Bool, true, false, ◌&&◌, refl, nat_le}
 use Rattle.std.proofs.lemmas.Bool.{leb-true}
 use Rattle.mt_base.specs.declared.partition.Partition.{Partition}
-use Rattle.part_set.specs.part_name.declared.part.PartName.{PartName}
+use Rattle.table_core.specs.part_set.part_name.declared.part.PartName.{PartName}
 use Rattle.table_core.specs.part_history.declared.part.CorePart.{CorePart}
 use Rattle.mt_values.specs.Tables.{same_partition}
 use Rattle.table_core.specs.mt_model.Numbers.{lies_within}

@@ -8,8 +8,8 @@ use Rattle.mt_values.specs.Grammar.{same_bytes}
 use Rattle.mt_outside.specs.Disk.{Names}
 use Rattle.table_core.specs.mt_model.History.{History}
 use Rattle.table_core.proofs.MtModelTables.{itself_same}
-use Rattle.part_set.specs.declared.root_name.TablePart.{TablePart}
-use Rattle.part_set.specs.Visible.{Overlap}
+use Rattle.table_core.specs.part_set.declared.root_name.TablePart.{TablePart}
+use Rattle.table_core.specs.part_set.Visible.{Overlap}
 use Rattle.table_core.specs.part_history.declared.part.CorePart.{CorePart}
 use Rattle.table_core.specs.part_history.Parts.{PartStands, has_block, core_parts_of}
 use Rattle.table_core.proofs.PartHistoryApart.{has_at}

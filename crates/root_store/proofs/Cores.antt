@@ -23,9 +23,9 @@ use Rattle.table_core.proofs.MtModelTables.{same_is}
 use Rattle.part_reader.specs.declared.reading.Part.{Part}
 use Rattle.part_reader.specs.Parts.{PartHolds}
 use Rattle.part_reader.proofs.HeldRows.{one_held}
-use Rattle.part_set.specs.declared.kept.Kept.{Kept}
-use Rattle.part_set.specs.Sets as sets
-use Rattle.part_set.proofs.Maps.{found_is}
+use Rattle.table_core.specs.part_set.declared.kept.Kept.{Kept}
+use Rattle.table_core.specs.part_set.Sets as sets
+use Rattle.table_core.proofs.PartSetMaps.{found_is}
 use Rattle.table_core.specs.part_history.declared.part.CorePart.{CorePart}
 use Rattle.table_core.specs.part_history.Parts.{AreInBlockOrder, PartStands, TableStands, core_parts_of}
 use Rattle.table_core.specs.Core.{Core, IsCore, IsSnapshot}

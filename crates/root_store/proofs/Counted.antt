@@ -16,6 +16,7 @@ use Rattle.table_core.proofs.MtModelHistories.{schema_kept, schema_more}
 abbrev pub table_by : Command → List ℕ
 table_by (command.Create c) = c.table
 table_by (command.Insert i) = i.table
+table_by (command.Alter a) = a.table
 
 abbrev pub one_if : Bool → ℕ
 one_if b = cond b 1 0
@@ -129,6 +130,9 @@ creates_after before (e ∷ h) legal few =
     by (command.Insert i) allowed is =
         let one : length (cond (is_create e.command) (e ∷ []) []) ≡ 0 = ap (λ (x : Command). length (cond (is_create x) (e ∷ []) [])) is in
         omega (arith, more, one, few)
+    by (command.Alter a) allowed is =
+        let one : length (cond (is_create e.command) (e ∷ []) []) ≡ 0 = ap (λ (x : Command). length (cond (is_create x) (e ∷ []) [])) is in
+        omega (arith, more, one, few)
 
 -- a legal history has few tables
 pub creates_few : (h : History) → IsLegal h → creates h ≤ 65536
@@ -152,6 +156,9 @@ there_after before e allowed = by e.command allowed refl
     by (command.Insert i) allowed is =
         let table : table_by e.command ≡ i.table = ap table_by is in
         ap (λ (t : List ℕ). is_some (schema_of t (before ++ e ∷ []))) table ∙ ap is_some (schema_kept i.table before (e ∷ []) allowed.0 allowed.1)
+    by (command.Alter a) allowed is =
+        let table : table_by e.command ≡ a.table = ap table_by is in
+        ap (λ (t : List ℕ). is_some (schema_of t (before ++ e ∷ []))) table ∙ ap is_some (schema_kept a.table before (e ∷ []) allowed.0 allowed.1)
 
 some_kept : (t : List ℕ) (h more : History) → is_some (schema_of t h) ≡ true → is_some (schema_of t (h ++ more)) ≡ true
 some_kept t h more some = by (schema_of t h) refl some
@@ -200,6 +207,7 @@ once_after k before (e ∷ h) legal = by e.command legal.0 refl (once_after k (b
     by : (c : Command) → IsAllowed before c → e.command ≡ c → hits is_create k h ≡ cond (is_some (schema_of k (before ++ e ∷ []))) 0 (one_if (is_some (schema_of k h)))
         → hits is_create k (e ∷ h) ≡ cond (is_some (schema_of k before)) 0 (one_if (is_some (schema_of k (e ∷ h))))
     by (command.Insert i) allowed is more = same (ap (schema_by k) is) (ap (λ (c : Command). is_create c && same_bytes (table_by c) k) is) more
+    by (command.Alter a) allowed is more = same (ap (schema_by k) is) (ap (λ (c : Command). is_create c && same_bytes (table_by c) k) is) more
     by (command.Create c) allowed is more = named (same_bytes c.table k) refl
       where
         named : (b : Bool) → same_bytes c.table k ≡ b → hits is_create k (e ∷ h) ≡ cond (is_some (schema_of k before)) 0 (one_if (is_some (schema_of k (e ∷ h))))
@@ -230,6 +238,11 @@ of_table k (e ∷ h) = by e.command (of_table k h)
     by (command.Insert i) more = on (same_bytes i.table k)
       where
         on : (b : Bool) → one_if b + hits every k h ≡ 0 + hits is_create k h + length (cond b (command.Insert i ∷ numbered k h) (numbered k h))
+        on true = omega (arith, more)
+        on false = omega (arith, more)
+    by (command.Alter a) more = on (same_bytes a.table k)
+      where
+        on : (b : Bool) → one_if b + hits every k h ≡ 0 + hits is_create k h + length (cond b (command.Alter a ∷ numbered k h) (numbered k h))
         on true = omega (arith, more)
         on false = omega (arith, more)
 

@@ -13,9 +13,9 @@ use Rattle.mt_outside.specs.Disk.{Names}
 use Rattle.table_core.specs.mt_model.History.{History, IsAllowed, IsLegal, IsLegalAfter, first_of, schema_by, schema_of}
 use Rattle.table_core.proofs.MtModelHistories.{schema_more}
 use Rattle.table_core.proofs.MtModelTables.{itself_same, same_is}
-use Rattle.part_set.specs.declared.root_name.RootName.TheVariants as root
-use Rattle.part_set.specs.Visible.{HasTable}
-use Rattle.part_set.proofs.Items.{item_none}
+use Rattle.table_core.specs.part_set.declared.root_name.RootName.TheVariants as root
+use Rattle.table_core.specs.part_set.Visible.{HasTable}
+use Rattle.table_core.proofs.PartSetItems.{item_none}
 use Rattle.root_store.specs.Entries.{EntryHolds, HoldsEntry, create_of, entry_name}
 use Rattle.root_store.specs.Roots.{HasFolder, PlacedEntry, Stands}
 use Rattle.root_store.proofs.EntryPlaces.{placed_has}
@@ -44,6 +44,7 @@ made_in table schema (e ∷ h) is = by e.command refl is (made_in table schema h
   where
     by : (c : Command) → e.command ≡ c → first_of (schema_by table c) (schema_of table h) ≡ Some schema → (schema_of table h ≡ Some schema → IsMadeIn table schema h) → IsMadeIn table schema (e ∷ h)
     by (command.Insert i) same found rest = made_more table schema e h (rest found)
+    by (command.Alter a) same found rest = made_more table schema e h (rest found)
     by (command.Create c) same found rest = named (same_bytes c.table table) refl found
       where
         named : (b : Bool) → same_bytes c.table table ≡ b → first_of (cond b (Some c.schema) None) (schema_of table h) ≡ Some schema → IsMadeIn table schema (e ∷ h)
@@ -81,6 +82,7 @@ KnownTable table h = (schema : Schema) × (schema_of table h ≡ Some schema)
 
 known_by : (h before : History) (table : List ℕ) (e : Entry) (c : Command) → IsLegal h → HasItem h e → e.command ≡ c → entry_name before c ≡ Some (create_name table) → KnownTable table h
 known_by h before table e (command.Insert i) legal has is named = absurd cc
+known_by h before table e (command.Alter a) legal has is named = absurd cc
 known_by h before table e (command.Create c) legal has is named =
     let own : c.table ≡ table = entries_differ c.table table (same_some (create_name c.table) (create_name table) named) in
     (c.schema, subst (λ (t : List ℕ). schema_of t h ≡ Some c.schema) own (makes h e c legal has is))

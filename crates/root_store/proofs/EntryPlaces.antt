@@ -4,7 +4,7 @@ use Rattle.std.proofs.lemmas.List.Elements.{Contains-append_right}
 use Rattle.std.specs.List.{Contains as HasItem}
 use Rattle.mt_values.specs.declared.command.Entry.{Entry}
 use Rattle.table_core.specs.mt_model.History.{History}
-use Rattle.part_set.proofs.Items.{item_first}
+use Rattle.table_core.proofs.PartSetItems.{item_first}
 use Rattle.root_store.specs.Roots.{PlacedEntry}
 
 -- it is among the entries

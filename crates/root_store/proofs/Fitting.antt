@@ -6,15 +6,15 @@ use Rattle.std.specs.List.{Contains as HasItem}
 use Rattle.std.specs.Option.{IsSome}
 use Rattle.mt_outside.specs.Disk.{Told, names_of}
 use Rattle.mt_outside.specs.Files.{Files}
-use Rattle.part_set.specs.part_name.declared.part.PartName.{PartName}
-use Rattle.part_set.specs.part_name.PartNames.{Contains, IsPartName}
-use Rattle.part_set.specs.declared.root_name.RootName.{RootName}
-use Rattle.part_set.specs.declared.root_name.RootName.TheVariants.{Create, Part}
-use Rattle.part_set.specs.declared.root_name.TablePart.{TablePart}
-use Rattle.part_set.specs.RootNames.{IsRootName, root_text}
-use Rattle.part_set.specs.Visible.{HasNoOrphan, HasPart, HasTable, IsVisible}
-use Rattle.part_set.proofs.Orphans.{table_found}
-use Rattle.part_set.proofs.Visibles.{table_there}
+use Rattle.table_core.specs.part_set.part_name.declared.part.PartName.{PartName}
+use Rattle.table_core.specs.part_set.part_name.PartNames.{Contains, IsPartName}
+use Rattle.table_core.specs.part_set.declared.root_name.RootName.{RootName}
+use Rattle.table_core.specs.part_set.declared.root_name.RootName.TheVariants.{Create, Part}
+use Rattle.table_core.specs.part_set.declared.root_name.TablePart.{TablePart}
+use Rattle.table_core.specs.part_set.RootNames.{IsRootName, root_text}
+use Rattle.table_core.specs.part_set.Visible.{HasNoOrphan, HasPart, HasTable, IsVisible}
+use Rattle.table_core.proofs.PartSetOrphans.{table_found}
+use Rattle.table_core.proofs.PartSetVisibles.{table_there}
 use Rattle.root_store.specs.declared.store.CoreStore.{CoreStore}
 use Rattle.root_store.specs.declared.store.Table.{Table}
 use Rattle.root_store.specs.Soundness.{IsNameUnder, NamesFit}

@@ -8,9 +8,9 @@ use Rattle.mt_base.specs.declared.partition.Partition.{Partition}
 use Rattle.mt_base.specs.declared.partition.Partition.TheVariants.{Whole, Number}
 use Rattle.mt_values.specs.Values.{Row}
 use Rattle.part_reader.specs.declared.reading.Part.{Part}
-use Rattle.part_set.specs.declared.kept.Kept.{Kept}
-use Rattle.part_set.specs.Parts.{IsInBlockOrder, StandsClear, partition_rank}
-use Rattle.part_set.proofs.Items.{item_first}
+use Rattle.table_core.specs.part_set.declared.kept.Kept.{Kept}
+use Rattle.table_core.specs.part_set.Parts.{IsInBlockOrder, StandsClear, partition_rank}
+use Rattle.table_core.proofs.PartSetItems.{item_first}
 use Rattle.table_core.specs.part_history.declared.part.CorePart.{CorePart}
 use Rattle.table_core.specs.part_history.Parts.{AreInBlockOrder, block_cmp, partition_cmp}
 use Rattle.root_store.specs.Stores.{core_part, core_parts}

@@ -3,8 +3,8 @@ use Rattle.std.proofs.Common.{◌≡◌, ℕ, ◌+◌, ◌≤◌, Bool, true, fa
 use Rattle.std.proofs.lemmas.List.Elements.{Contains-append_cases, Contains-push_cases}
 use Rattle.std.proofs.lemmas.List.Sums.{sum_by-cons}
 use Rattle.std.specs.List.{Contains as HasItem, count_by}
-use Rattle.part_set.proofs.Items.{item_first, item_none}
-use Rattle.part_set.proofs.Orphans.{item_more}
+use Rattle.table_core.proofs.PartSetItems.{item_first, item_none}
+use Rattle.table_core.proofs.PartSetOrphans.{item_more}
 
 pub item_either : {X : Type 0} (x y : X) (xs : List X) → HasItem (x ∷ xs) y → (x ≡ y) ⊎ HasItem xs y
 item_either x y xs has = elim (Contains-append_cases (x ∷ []) xs y has) [

@@ -31,26 +31,26 @@ pub use Rattle.table_core.proofs.PartHistoryApart
 pub use Rattle.table_core.proofs.PartHistoryGrowing
 pub use Rattle.table_core.proofs.PartHistoryMerging
 pub use Rattle.table_core.proofs.PartHistoryNumbered
-pub use Rattle.part_set.proofs.PartNameMerging
-pub use Rattle.part_set.proofs.PartNameTexts
+pub use Rattle.table_core.proofs.PartNameMerging
+pub use Rattle.table_core.proofs.PartNameTexts
 pub use Rattle.part_reader.proofs.CutRows as PartReaderCutRows
 pub use Rattle.part_reader.proofs.DamagedFiles as PartReaderDamagedFiles
 pub use Rattle.part_reader.proofs.HeldRows as PartReaderHeldRows
 pub use Rattle.part_reader.proofs.Holding as PartReaderHolding
 pub use Rattle.part_reader.proofs.Opened as PartReaderOpened
 pub use Rattle.part_reader.proofs.SoundRows as PartReaderSoundRows
-pub use Rattle.part_set.proofs.Clearing as PartSetClearing
-pub use Rattle.part_set.proofs.Dots as PartSetDots
-pub use Rattle.part_set.proofs.Items as PartSetItems
-pub use Rattle.part_set.proofs.Maps as PartSetMaps
-pub use Rattle.part_set.proofs.NamePlaces as PartSetNamePlaces
-pub use Rattle.part_set.proofs.NameTexts as PartSetNameTexts
-pub use Rattle.part_set.proofs.Orders as PartSetOrders
-pub use Rattle.part_set.proofs.Orphans as PartSetOrphans
-pub use Rattle.part_set.proofs.Passes as PartSetPasses
-pub use Rattle.part_set.proofs.Shelving as PartSetShelving
-pub use Rattle.part_set.proofs.Swaps as PartSetSwaps
-pub use Rattle.part_set.proofs.Visibles as PartSetVisibles
+pub use Rattle.table_core.proofs.PartSetClearing
+pub use Rattle.table_core.proofs.PartSetDots
+pub use Rattle.table_core.proofs.PartSetItems
+pub use Rattle.table_core.proofs.PartSetMaps
+pub use Rattle.table_core.proofs.PartSetNamePlaces
+pub use Rattle.table_core.proofs.PartSetNameTexts
+pub use Rattle.table_core.proofs.PartSetOrders
+pub use Rattle.table_core.proofs.PartSetOrphans
+pub use Rattle.table_core.proofs.PartSetPasses
+pub use Rattle.table_core.proofs.PartSetShelving
+pub use Rattle.table_core.proofs.PartSetSwaps
+pub use Rattle.table_core.proofs.PartSetVisibles
 pub use Rattle.part_reader.proofs.PartWriterContents
 pub use Rattle.table_core.proofs.Neighbours as TableCoreNeighbours
 pub use Rattle.table_core.proofs.Stepping as TableCoreStepping

@@ -6,13 +6,13 @@ use Rattle.std.specs.List.{Contains as HasItem}
 use Rattle.std.specs.Option.{IsSome}
 use Rattle.mt_outside.specs.Disk.{Names}
 use Rattle.table_core.specs.mt_model.History.{History}
-use Rattle.part_set.specs.part_name.declared.part.PartName.{PartName}
-use Rattle.part_set.specs.part_name.PartNames.{IsPartName}
-use Rattle.part_set.specs.declared.root_name.RootName.{RootName}
-use Rattle.part_set.specs.declared.root_name.RootName.TheVariants.{Create, Part}
-use Rattle.part_set.specs.declared.root_name.TablePart.{TablePart}
-use Rattle.part_set.specs.RootNames.{IsRootName}
-use Rattle.part_set.specs.Visible.{Covers, HasPart, HasTable, IsOrphan, IsVisible}
+use Rattle.table_core.specs.part_set.part_name.declared.part.PartName.{PartName}
+use Rattle.table_core.specs.part_set.part_name.PartNames.{IsPartName}
+use Rattle.table_core.specs.part_set.declared.root_name.RootName.{RootName}
+use Rattle.table_core.specs.part_set.declared.root_name.RootName.TheVariants.{Create, Part}
+use Rattle.table_core.specs.part_set.declared.root_name.TablePart.{TablePart}
+use Rattle.table_core.specs.part_set.RootNames.{IsRootName}
+use Rattle.table_core.specs.part_set.Visible.{Covers, HasPart, HasTable, IsOrphan, IsVisible}
 use Rattle.table_core.specs.part_history.declared.part.CorePart.{CorePart}
 use Rattle.root_store.specs.Roots.{PartIsThere, Stands, named}
 use Rattle.root_store.proofs.EntriesOf.{table_entry}

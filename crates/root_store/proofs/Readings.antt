@@ -12,17 +12,17 @@ use Rattle.std.specs.Ordering.{nat_cmp}
 use Rattle.mt_values.specs.RootNames.{create_name}
 use Rattle.mt_outside.specs.Disk.{Names, files_at}
 use Rattle.mt_outside.specs.Files.{Files}
-use Rattle.part_set.specs.part_name.declared.part.PartName.{PartName}
-use Rattle.part_set.specs.part_name.PartNames.{IsMutation, IsPartName, joined, last_text, part_text, partition_text}
-use Rattle.part_set.specs.declared.root_name.RootName.{RootName}
-use Rattle.part_set.specs.declared.root_name.RootName.TheVariants.{Create, Part}
-use Rattle.part_set.specs.declared.root_name.TablePart.{TablePart}
-use Rattle.part_set.specs.RootNames.{IsRootName, root_text}
-use Rattle.part_set.specs.Visible.{HasTable}
-use Rattle.part_set.proofs.Items.{item_first}
-use Rattle.part_set.proofs.Maps.{found_is}
-use Rattle.part_set.proofs.NameTexts.{root_names_same}
-use Rattle.part_set.proofs.Orphans.{item_more}
+use Rattle.table_core.specs.part_set.part_name.declared.part.PartName.{PartName}
+use Rattle.table_core.specs.part_set.part_name.PartNames.{IsMutation, IsPartName, joined, last_text, part_text, partition_text}
+use Rattle.table_core.specs.part_set.declared.root_name.RootName.{RootName}
+use Rattle.table_core.specs.part_set.declared.root_name.RootName.TheVariants.{Create, Part}
+use Rattle.table_core.specs.part_set.declared.root_name.TablePart.{TablePart}
+use Rattle.table_core.specs.part_set.RootNames.{IsRootName, root_text}
+use Rattle.table_core.specs.part_set.Visible.{HasTable}
+use Rattle.table_core.proofs.PartSetItems.{item_first}
+use Rattle.table_core.proofs.PartSetMaps.{found_is}
+use Rattle.table_core.proofs.PartSetNameTexts.{root_names_same}
+use Rattle.table_core.proofs.PartSetOrphans.{item_more}
 use Rattle.root_store.specs.Roots.{AreNamesRead}
 
 -- ---- one reading

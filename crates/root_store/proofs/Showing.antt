@@ -4,12 +4,12 @@ use Rattle.std.proofs.lemmas.List.Elements.{All-nil}
 use Rattle.mt_outside.specs.Disk.{Names}
 use Rattle.root_store.specs.declared.store.CoreStore.{CoreStore}
 use Rattle.root_store.specs.Shown.{AreShown, GreatestAreShown, IsShown, LevelIsShown, part_called}
-use Rattle.part_set.specs.part_name.declared.part.PartName.{PartName}
+use Rattle.table_core.specs.part_set.part_name.declared.part.PartName.{PartName}
 use Rattle.part_reader.specs.declared.reading.Part.{Part}
-use Rattle.part_set.specs.declared.kept.Kept.{Kept}
-use Rattle.part_set.specs.declared.set.PartSet.{PartSet}
-use Rattle.part_set.specs.Parts.{HasName}
-use Rattle.part_set.specs.Sets.{parts_of}
+use Rattle.table_core.specs.part_set.declared.kept.Kept.{Kept}
+use Rattle.table_core.specs.part_set.declared.set.PartSet.{PartSet}
+use Rattle.table_core.specs.part_set.Parts.{HasName}
+use Rattle.table_core.specs.part_set.Sets.{parts_of}
 
 -- a visible part has its own level and blocks
 pub own_level : (names : Names) (table : List ℕ) (name : PartName) → IsShown names (part_called table name) → LevelIsShown names table name

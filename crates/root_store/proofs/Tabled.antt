@@ -13,12 +13,12 @@ use Rattle.mt_values.specs.RootNames.{create_name}
 use Rattle.mt_outside.specs.Disk.{Names}
 use Rattle.table_core.specs.mt_model.History.{History, schema_of}
 use Rattle.table_core.proofs.MtModelTables.{itself_same, same_is}
-use Rattle.part_set.specs.declared.root_name.RootName.{RootName}
-use Rattle.part_set.specs.declared.root_name.RootName.TheVariants.{Create, Part}
-use Rattle.part_set.specs.RootNames.{root_text}
-use Rattle.part_set.proofs.Items.{item_first, item_none}
-use Rattle.part_set.proofs.Orphans.{item_more}
-use Rattle.part_set.specs.Visible.{HasTable}
+use Rattle.table_core.specs.part_set.declared.root_name.RootName.{RootName}
+use Rattle.table_core.specs.part_set.declared.root_name.RootName.TheVariants.{Create, Part}
+use Rattle.table_core.specs.part_set.RootNames.{root_text}
+use Rattle.table_core.proofs.PartSetItems.{item_first, item_none}
+use Rattle.table_core.proofs.PartSetOrphans.{item_more}
+use Rattle.table_core.specs.part_set.Visible.{HasTable}
 use Rattle.root_store.specs.ByteOrder.{AreInByteOrder}
 use Rattle.root_store.specs.Damage.{is_entry_name, most_tables}
 use Rattle.root_store.specs.Roots.{Stands}

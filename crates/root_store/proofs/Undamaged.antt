@@ -17,11 +17,11 @@ use Rattle.part_reader.proofs.DigestFilePieces.{fronts_apart}
 use Rattle.part_reader.specs.DamagedFile.{damaged_file}
 use Rattle.part_reader.proofs.DamagedFiles.{file_is}
 use Rattle.part_reader.proofs.HeldRows.{written_undamaged}
-use Rattle.part_set.specs.declared.root_name.RootName.{RootName}
-use Rattle.part_set.specs.declared.root_name.RootName.TheVariants as root
-use Rattle.part_set.specs.declared.root_name.TablePart.{TablePart}
-use Rattle.part_set.specs.RootNames.{root_text}
-use Rattle.part_set.specs.Visible.{IsVisible}
+use Rattle.table_core.specs.part_set.declared.root_name.RootName.{RootName}
+use Rattle.table_core.specs.part_set.declared.root_name.RootName.TheVariants as root
+use Rattle.table_core.specs.part_set.declared.root_name.TablePart.{TablePart}
+use Rattle.table_core.specs.part_set.RootNames.{root_text}
+use Rattle.table_core.specs.part_set.Visible.{IsVisible}
 use Rattle.table_core.specs.part_history.declared.part.CorePart.{CorePart}
 use Rattle.table_core.specs.part_history.Parts.{core_parts_of}
 use Rattle.table_core.proofs.PartHistoryApart.{may_have}

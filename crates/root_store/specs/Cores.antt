@@ -7,8 +7,8 @@ use Rattle.mt_outside.specs.Files.{Files}
 use Rattle.table_core.specs.mt_model.History.{History}
 use Rattle.part_reader.specs.declared.reading.Part.{Part}
 use Rattle.part_reader.specs.Parts.{PartHolds}
-use Rattle.part_set.specs.declared.kept.Kept.{Kept}
-use Rattle.part_set.specs.Sets as sets
+use Rattle.table_core.specs.part_set.declared.kept.Kept.{Kept}
+use Rattle.table_core.specs.part_set.Sets as sets
 use Rattle.table_core.specs.part_history.Parts.{core_parts_of}
 use Rattle.table_core.specs.Core.{Core, IsCore}
 use Rattle.root_store.specs.declared.store.CoreStore.{CoreStore}

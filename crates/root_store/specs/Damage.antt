@@ -8,11 +8,11 @@ use Rattle.mt_outside.specs.Disk.{Names, files_at}
 use Rattle.mt_outside.specs.Files.{Files}
 use Rattle.part_reader.specs.DamagedFile.{damaged_file}
 pub use Rattle.mt_base.specs.Limits.{root_table_limit as most_tables}
-use Rattle.part_set.specs.declared.root_name.RootName.{RootName}
-use Rattle.part_set.specs.declared.root_name.RootName.TheVariants as root
-use Rattle.part_set.specs.declared.root_name.TablePart.{TablePart}
-use Rattle.part_set.specs.RootNames.{IsRootName, root_text}
-use Rattle.part_set.specs.Visible.{IsVisible}
+use Rattle.table_core.specs.part_set.declared.root_name.RootName.{RootName}
+use Rattle.table_core.specs.part_set.declared.root_name.RootName.TheVariants as root
+use Rattle.table_core.specs.part_set.declared.root_name.TablePart.{TablePart}
+use Rattle.table_core.specs.part_set.RootNames.{IsRootName, root_text}
+use Rattle.table_core.specs.part_set.Visible.{IsVisible}
 use Rattle.root_store.specs.Entries.{EntryHolds}
 use Rattle.root_store.specs.Roots.{AreNamesRead, HasFolder}
 

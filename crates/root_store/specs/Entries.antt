@@ -66,10 +66,12 @@ pub record IsEntryFor (before : History) (command : Command) (entry : List ℕ) 
 abbrev pub HoldsEntry : History → Command → Files → Type 0
 HoldsEntry before command files = IsEntryFor before command (bytes_of file.Entry files)
 
--- the name under which a root has the entry of a command after these entries: a CREATE's is that of its table, and an INSERT has none
+-- the name under which a root has the entry of a command after these entries: a CREATE's is that of its table, and an INSERT has none;
+-- nor has a mutation, which no root has yet
 abbrev pub entry_name : History → Command → Option (List ℕ)
 entry_name before (command.Create c) = Some (create_name c.table)
 entry_name before (command.Insert i) = None
+entry_name before (command.Alter a) = None
 
 -- the command that makes a table
 abbrev pub create_of : List ℕ → Schema → Command

@@ -1,16 +1,17 @@
 -- Which roots stand for a history (docs/crashes.md, "Roots").
-use Rattle.std.specs.Prelude.{◌≡◌, ◌↔◌, ℕ, List, ◌∷◌, ◌++◌, map, All, Some, None}
+use Rattle.std.specs.Prelude.{◌≡◌, ◌↔◌, ℕ, List, [], ◌∷◌, ◌++◌, map, All, Some, None}
 use Rattle.std.specs.List.{Contains as HasItem}
 use Rattle.mt_values.specs.declared.command.Entry.{Entry}
 use Rattle.mt_values.specs.declared.schema.Schema.{Schema}
 use Rattle.mt_outside.specs.Disk.{Names, files_at}
 use Rattle.mt_outside.specs.Files.{Files}
 use Rattle.table_core.specs.mt_model.History.{History, IsLegal, schema_of}
-use Rattle.part_set.specs.declared.root_name.RootName.{RootName}
-use Rattle.part_set.specs.declared.root_name.RootName.TheVariants as root
-use Rattle.part_set.specs.declared.root_name.TablePart.{TablePart}
-use Rattle.part_set.specs.RootNames.{IsRootName, root_text}
-use Rattle.part_set.specs.Visible.{HasPart, IsVisible}
+use Rattle.table_core.specs.mt_model.Numbers.{mutations_in}
+use Rattle.table_core.specs.part_set.declared.root_name.RootName.{RootName}
+use Rattle.table_core.specs.part_set.declared.root_name.RootName.TheVariants as root
+use Rattle.table_core.specs.part_set.declared.root_name.TablePart.{TablePart}
+use Rattle.table_core.specs.part_set.RootNames.{IsRootName, root_text}
+use Rattle.table_core.specs.part_set.Visible.{HasPart, IsVisible}
 pub use Rattle.part_reader.specs.Parts.{FolderHolds}
 use Rattle.table_core.specs.part_history.declared.part.CorePart.{CorePart}
 use Rattle.table_core.specs.part_history.Parts.{PartsStand}
@@ -50,13 +51,14 @@ IsOfEntry (root.Create table) = Unit {0}
 IsOfEntry (root.Part part) = ⊥
 
 -- The names of a root, with their files, stand for a history (docs/crashes.md, "Roots"). Each name is one of the grammar, and none is of
--- a mutated part. The entries are exactly those of the history's commands that have one, each of which reads as its command where that
--- stands. The visible parts hold rows with which they stand for the history.
+-- a mutated part; the history has no mutations, since no name is that of one. The entries are exactly those of the history's commands that
+-- have one, each of which reads as its command where that stands. The visible parts hold rows with which they stand for the history.
 pub record Stands (names : Names) (h : History) : Type 0 where
   pub legal : IsLegal h
   pub read : List RootName
   pub are : AreNamesRead names read
   pub unmutated : (part : TablePart) → HasPart read part → part.name.mutation ≡ None
+  pub unaltered : (table : List ℕ) → mutations_in table h ≡ []
   pub entries : (p : PlacedEntry h) (name : List ℕ) → entry_name p.before p.entry.command ≡ Some name
       → HasFolder names name (HoldsEntry p.before p.entry.command)
   pub no_other : (n : RootName) → HasItem read n → IsOfEntry n → (p : PlacedEntry h) × (entry_name p.before p.entry.command ≡ Some (root_text n))

@@ -3,14 +3,14 @@ use Rattle.std.specs.Prelude.{◌≡◌, ◌≤◌, ◌↔◌, ℕ, List, All, O
 use Rattle.std.specs.Option.{ForSome}
 use Rattle.mt_base.specs.Limits.{level_limit}
 use Rattle.mt_outside.specs.Disk.{Image, Names, Told}
-use Rattle.part_set.specs.part_name.declared.part.PartName.{PartName}
+use Rattle.table_core.specs.part_set.part_name.declared.part.PartName.{PartName}
 use Rattle.part_reader.specs.declared.reading.Part.{Part}
-use Rattle.part_set.specs.declared.kept.Kept.{Kept}
-use Rattle.part_set.specs.declared.root_name.RootName.{RootName}
-use Rattle.part_set.specs.declared.root_name.TablePart.{TablePart}
-use Rattle.part_set.specs.Parts.{HasName}
-use Rattle.part_set.specs.Sets.{parts_of}
-use Rattle.part_set.specs.Visible.{IsVisible}
+use Rattle.table_core.specs.part_set.declared.kept.Kept.{Kept}
+use Rattle.table_core.specs.part_set.declared.root_name.RootName.{RootName}
+use Rattle.table_core.specs.part_set.declared.root_name.TablePart.{TablePart}
+use Rattle.table_core.specs.part_set.Parts.{HasName}
+use Rattle.table_core.specs.part_set.Sets.{parts_of}
+use Rattle.table_core.specs.part_set.Visible.{IsVisible}
 use Rattle.root_store.specs.declared.store.CoreStore.{CoreStore}
 use Rattle.root_store.specs.Roots.{AreNamesRead}
 

@@ -9,13 +9,13 @@ use Rattle.mt_values.specs.Values.{Row}
 use Rattle.mt_outside.specs.Disk.{Told, names_of}
 use Rattle.mt_outside.specs.Files.{Files}
 use Rattle.table_core.specs.mt_model.History.{History, IsTableSchema}
-use Rattle.part_set.specs.part_name.declared.part.PartName.{PartName}
-use Rattle.part_set.specs.part_name.PartNames.{IsPartName, part_text}
+use Rattle.table_core.specs.part_set.part_name.declared.part.PartName.{PartName}
+use Rattle.table_core.specs.part_set.part_name.PartNames.{IsPartName, part_text}
 use Rattle.part_reader.specs.declared.reading.Part.{Part}
 use Rattle.part_reader.specs.Parts.{PartHolds}
-use Rattle.part_set.specs.declared.kept.Kept.{Kept}
-use Rattle.part_set.specs.RootNames.{is_table}
-use Rattle.part_set.specs.Sets.{parts_of}
+use Rattle.table_core.specs.part_set.declared.kept.Kept.{Kept}
+use Rattle.table_core.specs.part_set.RootNames.{is_table}
+use Rattle.table_core.specs.part_set.Sets.{parts_of}
 use Rattle.root_store.specs.declared.store.CoreStore.{CoreStore}
 use Rattle.root_store.specs.declared.store.Table.{Table}
 use Rattle.root_store.specs.Roots.{Stands}

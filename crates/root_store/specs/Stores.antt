@@ -10,21 +10,21 @@ use Rattle.mt_values.specs.RootNames.{create_name}
 use Rattle.mt_values.specs.Values.{Row}
 use Rattle.mt_outside.specs.Disk.{Names, files_at}
 use Rattle.mt_outside.specs.Files.{Files}
-use Rattle.mutation_queue.specs.Queue.{mutations_of}
+use Rattle.table_core.specs.mutation_queue.Queue.{mutations_of}
 use Rattle.table_core.specs.mt_model.History.{History, IsLegal, creates, schema_of}
-use Rattle.table_core.specs.mt_model.Numbers.{last_number}
+use Rattle.table_core.specs.mt_model.Numbers.{last_number, mutations_in}
 use Rattle.part_reader.specs.declared.reading.Part.{Part}
-use Rattle.part_set.specs.part_name.declared.part.PartName.{PartName}
+use Rattle.table_core.specs.part_set.part_name.declared.part.PartName.{PartName}
 use Rattle.part_reader.specs.Parts.{PartHolds}
 use Rattle.part_reader.specs.Sound.{IsLoadedOf}
-use Rattle.part_set.specs.declared.kept.Kept.{Kept}
-use Rattle.part_set.specs.declared.root_name.RootName.{RootName}
-use Rattle.part_set.specs.declared.root_name.RootName.TheVariants as root
-use Rattle.part_set.specs.declared.root_name.TablePart.{TablePart}
-use Rattle.part_set.specs.Parts.{IsInBlockOrder}
-use Rattle.part_set.specs.RootNames.{root_text}
-use Rattle.part_set.specs.Sets.{parts_of}
-use Rattle.part_set.specs.Visible.{HasTable, IsVisible}
+use Rattle.table_core.specs.part_set.declared.kept.Kept.{Kept}
+use Rattle.table_core.specs.part_set.declared.root_name.RootName.{RootName}
+use Rattle.table_core.specs.part_set.declared.root_name.RootName.TheVariants as root
+use Rattle.table_core.specs.part_set.declared.root_name.TablePart.{TablePart}
+use Rattle.table_core.specs.part_set.Parts.{IsInBlockOrder}
+use Rattle.table_core.specs.part_set.RootNames.{root_text}
+use Rattle.table_core.specs.part_set.Sets.{parts_of}
+use Rattle.table_core.specs.part_set.Visible.{HasTable, IsVisible}
 use Rattle.table_core.specs.part_history.declared.part.CorePart.{CorePart}
 use Rattle.table_core.specs.part_history.Parts.{AreInBlockOrder, TableStands}
 use Rattle.root_store.specs.declared.store.CoreStore.{CoreStore}
@@ -62,8 +62,8 @@ abbrev pub HasNoMutation : {F : Type 0} → CoreStore F → Type 0
 HasNoMutation store = (table : List ℕ) → mutations_of store.mutations table ≡ []
 
 -- The store stands for a history: its tables are those of the history, each with the number that was drawn last, and their parts hold the
--- rows of the history. It keeps no parts of any other table. The mutations of each table's queue are those of the history: none, since no
--- command is a mutation.
+-- rows of the history. It keeps no parts of any other table. The mutations of each table's queue are those of the history: none, since no root
+-- has one yet.
 pub record CoreStands {F : Type 0} (files_of : F → Option Files) (h : History) (store : CoreStore F) : Type 0 where
   pub legal : IsLegal h
   pub length_is : store.length ≡ length h
@@ -72,7 +72,8 @@ pub record CoreStands {F : Type 0} (files_of : F → Option Files) (h : History)
   pub drawn : (table : List ℕ) (t : Table) → table_at store table ≡ Some t → t.drawn ≡ last_number table h
   pub parts : (table : List ℕ) (t : Table) → table_at store table ≡ Some t → PartsAreThere files_of h store table t.schema
   pub no_other : (table : List ℕ) → table_at store table ≡ None → parts_of store.set table ≡ []
-  pub mutations : HasNoMutation store
+  pub mutations : (table : List ℕ) → mutations_of store.mutations table ≡ mutations_in table h
+  pub unaltered : (table : List ℕ) → mutations_in table h ≡ []
 
 -- ---- what a root is opened as
 

@@ -6,10 +6,8 @@ mod store;
 
 pub use durable_commit;
 pub use laws::stores_show_the_core;
-pub use mutation_queue;
 pub use part_reader;
 pub use part_reader::{digest_file, part_writer};
-pub use part_set;
-pub use part_set::part_name;
 pub use store::{CoreStore, Table, put_table};
-pub use table_core::mt_model;
+pub use table_core::part_set::part_name;
+pub use table_core::{mt_model, mutation_queue, part_set};

@@ -10,11 +10,11 @@ ghost use Rattle.root_store.specs.Stores.{CoreStands, fresh_table, table_at};
 
 use mt_base::{NoMemory, Twin};
 use mt_values::{Name, Schema};
-use mutation_queue::Mutations;
 use part_reader::Part;
-use part_set::PartSet;
 use std::alloc::Global;
 use std::collections::BTreeMap;
+use table_core::mutation_queue::Mutations;
+use table_core::part_set::PartSet;
 
 /// A table: its schema, and the greatest number that a command of it has drawn, 0 for none.
 #[derive(Drop)]
