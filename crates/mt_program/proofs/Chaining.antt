@@ -34,6 +34,7 @@ empty_root = record {
   read = [];
   are = record { sound = All-nil IsRootName; spelled = refl };
   unmutated = λ part has. absurd (item_none (root_name.Part part) has);
+  unaltered = λ table. refl;
   entries = λ p name is. absurd (none_placed p.before p.entry p.after p.is);
   no_other = λ n has of. absurd (item_none n has);
   parts = [];

@@ -57,6 +57,7 @@ module _ {F : Type 0} (store : CoreStore F) (opened : ℕ) where
     parts = λ table t at. let one = s.parts table t at in record { rows = one.rows; hold = one.hold; stand = one.stand; order = one.order };
     no_other = s.no_other;
     mutations = s.mutations;
+    unaltered = s.unaltered;
   }
 
   pub shown_reopened : (names : Names) → AreShown store names → AreShown (reopened store opened) names

@@ -6,12 +6,12 @@ use Rattle.session.proofs.MergeSteps.{work_schema}
 use Rattle.session.proofs.Putting.{some_of_work}
 use Rattle.session.proofs.Taking.{taken_pair}
 use Rattle.session.specs.mt_model.History.{IsTableSchema}
-use Rattle.shared_store.specs.Engines.{GoesOn, IsOpen, Opened, Snaps}
-use Rattle.shared_store.specs.Works.{TakesPair}
-use Rattle.shared_store.specs.declared.work.Work.{Work}
-use Rattle.shared_store.specs.mutation_queue.declared.scope.Scope.{Scope}
-use Rattle.shared_store.specs.part_reader.declared.reading.Part.{Part}
-use Rattle.shared_store.specs.part_set.declared.kept.Snap.{Snap}
+use Rattle.session.specs.shared_store.Engines.{GoesOn, IsOpen, Opened, Snaps}
+use Rattle.session.specs.shared_store.Works.{TakesPair}
+use Rattle.session.specs.shared_store.declared.work.Work.{Work}
+use Rattle.session.specs.shared_store.mutation_queue.declared.scope.Scope.{Scope}
+use Rattle.session.specs.shared_store.part_reader.declared.reading.Part.{Part}
+use Rattle.session.specs.shared_store.part_set.declared.kept.Snap.{Snap}
 use Rattle.run_works.specs.Works.{MayBeMerged}
 
 -- what is there where an error else is answered

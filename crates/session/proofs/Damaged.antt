@@ -24,7 +24,7 @@ use Rattle.shared_store.specs.part_set.declared.kept.Snap.{Snap}
 use Rattle.shared_store.specs.root_store.Soundness.{HoldsRows}
 use Rattle.final_fold.specs.declared.asking.Wanted.{Wanted}
 use Rattle.final_fold.specs.row_merge.MergedParts.{PartsHold}
-use Rattle.select_plan.specs.Plans.{planned}
+use Rattle.final_fold.specs.select_plan.Plans.{planned}
 use Rattle.session.specs.Selects.{ExplainsRead, IsAskedOf, TellsOfDamage}
 
 -- parts of which each holds rows hold a list of rows, one after another

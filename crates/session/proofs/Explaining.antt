@@ -19,7 +19,7 @@ use Rattle.shared_store.specs.part_reader.declared.reading.Part.{Part}
 use Rattle.shared_store.specs.part_set.declared.kept.Kept.{Kept}
 use Rattle.shared_store.specs.part_writer.PartFiles.{loaded_of}
 use Rattle.shared_store.specs.root_store.Stores.{core_part, core_parts}
-use Rattle.select_plan.specs.Plans.{counts_over, read_of}
+use Rattle.final_fold.specs.select_plan.Plans.{counts_over, read_of}
 use Rattle.final_fold.specs.row_merge.MergedParts.{PartsHold}
 use Rattle.shared_store.specs.part_set.declared.kept.Snap.{Snap}
 use Rattle.shared_store.specs.root_store.declared.store.CoreStore.{CoreStore}

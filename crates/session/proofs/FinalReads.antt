@@ -30,12 +30,12 @@ use Rattle.final_fold.proofs.PartHistoryOwnRows.{own_rows}
 use Rattle.shared_store.specs.part_reader.declared.reading.Part.{Part}
 use Rattle.shared_store.specs.part_set.Parts.{partition_rank}
 use Rattle.shared_store.specs.part_set.declared.kept.Kept.{Kept}
-use Rattle.select_plan.specs.primary_marks.Choosing.{ArePartOf}
-use Rattle.select_plan.specs.primary_marks.Keys.{HasMarks}
-use Rattle.select_plan.proofs.PrimaryMarksSkippedGranules.{chosen_count}
+use Rattle.final_fold.specs.select_plan.primary_marks.Choosing.{ArePartOf}
+use Rattle.final_fold.specs.select_plan.primary_marks.Keys.{HasMarks}
+use Rattle.final_fold.proofs.PrimaryMarksSkippedGranules.{chosen_count}
 use Rattle.shared_store.specs.root_store.Stores.{core_part, core_parts}
-use Rattle.select_plan.specs.Plans.{read_of}
-use Rattle.select_plan.proofs.FoldedMatches.{folded_chosen}
+use Rattle.final_fold.specs.select_plan.Plans.{read_of}
+use Rattle.final_fold.proofs.SelectPlanFoldedMatches.{folded_chosen}
 use Rattle.final_fold.specs.declared.asking.Wanted.{Wanted}
 use Rattle.final_fold.specs.Folded.{AreOfPartitions, SkipNoFold, SkipsNoFold, StandByPartition}
 use Rattle.final_fold.specs.row_merge.MergedParts.{PartsHold}

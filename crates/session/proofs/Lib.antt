@@ -51,3 +51,5 @@ pub use Rattle.replies.proofs.Counting as RepliesCounting
 pub use Rattle.replies.proofs.Ends as RepliesEnds
 pub use Rattle.replies.proofs.RunStreamsKnown
 pub use Rattle.shared_store.proofs.Levels as SharedStoreLevels
+pub use Rattle.shared_store.proofs.RootStoreTableIndexes
+pub use Rattle.shared_store.proofs.RootStoreTableMarks

@@ -23,17 +23,17 @@ use Rattle.shared_store.specs.part_writer.declared.loaded.Loaded.{Loaded}
 use Rattle.shared_store.specs.part_writer.PartFiles.{loaded_of}
 use Rattle.replies.specs.predicate.Granules.{asked_in}
 use Rattle.replies.specs.predicate.Masks.{both}
-use Rattle.select_plan.specs.primary_marks.Choosing.{ArePartOf}
-use Rattle.select_plan.proofs.PrimaryMarksSkippedGranules.{asked_count, chosen_count, sure_meet}
+use Rattle.final_fold.specs.select_plan.primary_marks.Choosing.{ArePartOf}
+use Rattle.final_fold.proofs.PrimaryMarksSkippedGranules.{asked_count, chosen_count, sure_meet}
 use Rattle.shared_store.proofs.RootStoreTableIndexes.{has_indexes}
 use Rattle.shared_store.proofs.RootStoreTableMarks.{has_marks}
 use Rattle.shared_store.specs.root_store.Stores.{core_parts}
-use Rattle.select_plan.specs.Plans.{asked_of, asked_part, planned_part, read_of}
+use Rattle.final_fold.specs.select_plan.Plans.{asked_of, asked_part, planned_part, read_of}
 use Rattle.final_fold.proofs.RowMergeHistoryRows.{same_schema}
 use Rattle.final_fold.specs.Asked.{MeetUnasked, unasked_of}
-use Rattle.final_fold.proofs.Joining.{all_parts}
 use Rattle.final_fold.specs.row_merge.MergedParts.{PartsHold}
 use Rattle.session.proofs.Planned.{marked_is, planned_is, rows_count, rows_hold}
+use Rattle.session.proofs.Stacking.{all_after, all_before}
 
 module _ {F : Type 0} (files_of : F → Option Files) (schema : Schema) (c : Condition Test) where
   -- a plan says of each granule of a part that holds rows whether it is chosen
@@ -110,8 +110,8 @@ conjuncts_all P (Holds t) all = All-cons (λ (d : Condition Test). All P (tests_
 conjuncts_all P (Not a) all = All-cons (λ (d : Condition Test). All P (tests_of d)) (Not a) [] all (All-nil (λ (d : Condition Test). All P (tests_of d)))
 conjuncts_all P (Or a b) all = All-cons (λ (d : Condition Test). All P (tests_of d)) (Or a b) [] all (All-nil (λ (d : Condition Test). All P (tests_of d)))
 conjuncts_all P (And a b) all =
-    let parts = all_parts P (tests_of a) (tests_of b) all in
-    All-append (λ (d : Condition Test). All P (tests_of d)) (conjuncts_of a) (conjuncts_of b) (conjuncts_all P a parts.0) (conjuncts_all P b parts.1)
+    All-append (λ (d : Condition Test). All P (tests_of d)) (conjuncts_of a) (conjuncts_of b)
+    (conjuncts_all P a (all_before P (tests_of a) (tests_of b) all)) (conjuncts_all P b (all_after P (tests_of a) (tests_of b) all))
 
 -- of each with what is made of it
 each_made : {X Y : Type 0} (Q : X → Type 0) (R : X → Y → Type 0) (f : X → Y) → ((x : X) → Q x → R x (f x)) → (xs : List X) → All Q xs → AllZip R xs (map f xs)
@@ -122,7 +122,7 @@ module _ {F : Type 0} (files_of : F → Option Files) (schema : Schema) (c : Con
     (below : All (λ (t : Test). t.column < length schema.columns) (tests_of c)) where
   -- of a part
   part_sure : (k : Kept (Part F)) (r : List Row) → k.part.loaded ≡ loaded_of schema r → ArePartOf schema k.name.partition r
-      → MeetUnasked schema.granularity (planned_part schema c k) (conjuncts_of c) (asked_part schema false c k) r
+      → MeetUnasked schema.granularity (planned_part schema c k) (conjuncts_of c) (asked_part schema c k) r
   part_sure k r loaded part =
       let marks : k.part.loaded.marks ≡ mark_keys schema.primary schema.granularity r = ap (λ (l : Loaded). l.marks) loaded in
       let some = (has_marks schema fits).granularity in
@@ -137,7 +137,7 @@ module _ {F : Type 0} (files_of : F → Option Files) (schema : Schema) (c : Con
   zip_sure : (kept : List (Kept (Part F))) (rows : List (List Row)) → PartsHold files_of schema kept rows
       → AllByRecursion (λ (p : CorePart). p.table ≡ table) (core_parts table kept rows)
       → AllByRecursion (PartStands h) (core_parts table kept rows) → AllByRecursion (λ (p : CorePart). All (λ (r : Row). partition_of schema r ≡ p.name.partition) p.rows) (core_parts table kept rows)
-      → AllZip (λ (p : List Bool × List (List Bool)) (r : List Row). MeetUnasked schema.granularity p.0 (conjuncts_of c) p.1 r) (pairs (map (planned_part schema c) kept) (map (asked_part schema false c) kept)) rows
+      → AllZip (λ (p : List Bool × List (List Bool)) (r : List Row). MeetUnasked schema.granularity p.0 (conjuncts_of c) p.1 r) (pairs (map (planned_part schema c) kept) (map (asked_part schema c) kept)) rows
   zip_sure [] [] hold tables stands own = tt
   zip_sure [] (r ∷ rows) hold tables stands own = absurd hold
   zip_sure (k ∷ kept) [] hold tables stands own = absurd hold
@@ -154,7 +154,7 @@ module _ {F : Type 0} (files_of : F → Option Files) (schema : Schema) (c : Con
 
   -- of parts that stand for a table each row of a chosen granule in which the plan does not ask a conjunct meets it
   pub plans_sure : (kept : List (Kept (Part F))) (rows : List (List Row)) → IsLegal h → PartsHold files_of schema kept rows → TableStands table (core_parts table kept rows) h
-      → AllZip (λ (p : List Bool × List (List Bool)) (r : List Row). MeetUnasked schema.granularity p.0 (conjuncts_of c) p.1 r) (pairs (map (planned_part schema c) kept) (map (asked_part schema false c) kept)) rows
+      → AllZip (λ (p : List Bool × List (List Bool)) (r : List Row). MeetUnasked schema.granularity p.0 (conjuncts_of c) p.1 r) (pairs (map (planned_part schema c) kept) (map (asked_part schema c) kept)) rows
   plans_sure kept rows legal hold stand =
       let ps = core_parts table kept rows in
       zip_sure kept rows hold (recursion_from_All (λ (p : CorePart). p.table ≡ table) ps stand.own) (recursion_from_All (PartStands h) ps stand.each)

@@ -26,14 +26,14 @@ use Rattle.replies.specs.predicate.Masks.{both}
 use Rattle.replies.proofs.PredicateNarrowing.{narrowed_length, narrowed_skips}
 use Rattle.replies.specs.predicate.declared.extent.Known.{Known}
 use Rattle.replies.specs.predicate.declared.extent.Known.TheVariants as known
-use Rattle.select_plan.specs.primary_marks.Choosing.{ArePartOf}
-use Rattle.select_plan.specs.primary_marks.Keys.{HasMarks}
-use Rattle.select_plan.proofs.PrimaryMarksSkippedGranules.{chosen_count, chosen_pass, skipped_empty}
-use Rattle.select_plan.specs.Plans.{planned_part, read_of}
-use Rattle.select_plan.specs.skip_index.declared.index.Index.{Index}
-use Rattle.select_plan.specs.skip_index.Blocks.{index_at, index_of, no_index}
-use Rattle.select_plan.specs.skip_index.Choosing.{chosen_by, is_unknown, known_by}
-use Rattle.select_plan.proofs.SkipIndexSkipped.{skipped_empty as skipped_block}
+use Rattle.final_fold.specs.select_plan.primary_marks.Choosing.{ArePartOf}
+use Rattle.final_fold.specs.select_plan.primary_marks.Keys.{HasMarks}
+use Rattle.final_fold.proofs.PrimaryMarksSkippedGranules.{chosen_count, chosen_pass, skipped_empty}
+use Rattle.final_fold.specs.select_plan.Plans.{planned_part, read_of}
+use Rattle.final_fold.specs.select_plan.skip_index.declared.index.Index.{Index}
+use Rattle.final_fold.specs.select_plan.skip_index.Blocks.{index_at, index_of, no_index}
+use Rattle.final_fold.specs.select_plan.skip_index.Choosing.{chosen_by, is_unknown, known_by}
+use Rattle.final_fold.proofs.SkipIndexSkipped.{skipped_empty as skipped_block}
 
 -- ---- lists
 

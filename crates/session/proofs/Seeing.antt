@@ -1,5 +1,5 @@
 -- What a SELECT sees of a pinned table: what is asked for that, with FINAL and without it.
-use Rattle.std.proofs.Common.{◌≡◌, ◌<◌, ◌^◌, ◌∙◌, ℕ, Bool, true, false, List, [], ◌∷◌, All, Option, Some, Result, Ok, Err, length, map, refl, sym, ap, subst}
+use Rattle.std.proofs.Common.{◌≡◌, ◌<◌, ◌^◌, ◌∙◌, ℕ, Bool, true, false, List, [], ◌∷◌, All, Option, Some, Result, Ok, Err, length, map, refl, sym, ap, ap₂, subst}
 use Rattle.std.specs.List.{AllZip, zip as pairs}
 use Rattle.std.specs.Result.{IfOk, OnOk}
 use Rattle.std.proofs.lemmas.Bool.{false≢true}
@@ -22,11 +22,12 @@ use Rattle.shared_store.specs.part_set.declared.kept.Snap.{Snap}
 use Rattle.shared_store.specs.root_store.declared.store.CoreStore.{CoreStore}
 use Rattle.shared_store.specs.root_store.Stores.{CoreStands, core_parts}
 use Rattle.shared_store.proofs.RootStoreTableMarks.{has_marks}
-use Rattle.select_plan.specs.Plans.{asked_over, asked_part, planned, read_of}
+use Rattle.final_fold.specs.select_plan.Plans.{asked_each, asked_part, planned, read_of}
+use Rattle.final_fold.proofs.SelectPlanPlanning.{each_asked}
 use Rattle.final_fold.specs.declared.asking.Wanted.{Wanted}
 use Rattle.final_fold.specs.Asked.{IsWanted, MeetUnasked}
 use Rattle.final_fold.specs.Folded.{AreOfPartitions, IsFolded, SkipNoFold, StandByPartition}
-use Rattle.final_fold.specs.Matches.{HoldEachMatch, MeetWhereUnasked, matching}
+use Rattle.final_fold.specs.Matches.{HoldEachMatch, MeetWhereUnasked, asked_of, matching}
 use Rattle.final_fold.specs.row_merge.MergedParts.{PartsHold}
 use Rattle.final_fold.specs.Scans.{joined_rows, values_at}
 use Rattle.final_fold.proofs.Scanning.{joined_typed}
@@ -113,12 +114,16 @@ module _ {F : Type 0} (files_of : F → Option Files) (snap : Snap (Part F)) (w 
       pub seen : (columns : List Cells) (count : ℕ) → map (λ (c : Cells). c.values) columns ≡ values_at (matching w.condition.now (joined_rows rows)) w.places.now
           → count ≡ length (matching w.condition.now (joined_rows rows)) → IsSeen files_of snap.parts.items w false (live table w.schema.now h) columns count
 
-    pub plain_parts : (chosen : List (List Bool)) (asked : List (List (List Bool))) → chosen ≡ planned snap false w.condition.now → asked ≡ asked_over snap false w.condition.now → PlainParts chosen asked
-    plain_parts chosen asked is asked_is =
+    pub plain_parts : (own : List (Kept (Part F))) (chosen : List (List Bool)) → own ≡ snap.parts.items → chosen ≡ planned snap false w.condition.now → PlainParts chosen (asked_of w own chosen)
+    plain_parts own chosen own_is is =
         let schema = w.schema.now in
         let c = w.condition.now in
         let parts = snap.parts.items in
-        let asks : asked ≡ map (asked_part schema false c) parts = asked_is ∙ ap (λ (s : Schema). map (λ (k : Kept (Part F)). asked_part s false c k) parts) same in
+        let asked = asked_of w own chosen in
+        let asks : asked ≡ map (asked_part schema c) parts =
+        ap (λ (ds : List (Condition Test)). asked_each schema ds own chosen) wanted.conjuncts
+        ∙ ap₂ (λ (ks : List (Kept (Part F))) (cs : List (List Bool)). asked_each schema (conjuncts_of c) ks cs) own_is (plan_is false chosen is)
+        ∙ each_asked schema c parts in
         record {
           rows = held.rows;
           hold = held.hold;

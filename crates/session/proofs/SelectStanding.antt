@@ -1,6 +1,7 @@
 -- What the store tells of the tables of the history that it stands for, and of their rows.
 use Rattle.std.proofs.Common.{◌≡◌, ℕ, List, [], ◌∷◌, ◌++◌, refl, sym, ap, ◌∙◌, subst, Option, Some, None}
 use Rattle.std.specs.Option.{option_map}
+use Rattle.mt_values.specs.declared.mutation.Mutation.{Mutation}
 use Rattle.mt_values.specs.declared.schema.Schema.{Schema}
 use Rattle.mt_values.specs.Values.{Row}
 use Rattle.mt_outside.specs.Files.{Files}
@@ -10,7 +11,7 @@ use Rattle.replies.specs.mt_model.Partial.{Partly}
 use Rattle.shared_store.specs.part_reader.declared.reading.Part.{Part}
 use Rattle.shared_store.specs.part_set.declared.kept.Kept.{Kept}
 use Rattle.shared_store.specs.part_set.Sets.{parts_of}
-use Rattle.final_fold.specs.part_history.Parts.{AreInBlockOrder, TableStands, rows_of_parts}
+use Rattle.final_fold.specs.part_history.Parts.{AreInBlockOrder, TableStands, rows_of_parts, rows_seen_of}
 use Rattle.final_fold.proofs.PartHistoryJoined.{parts_joined}
 use Rattle.shared_store.specs.root_store.declared.store.CoreStore.{CoreStore}
 use Rattle.shared_store.specs.root_store.declared.store.Table.{Table}
@@ -56,7 +57,8 @@ module _ {F : Type 0} (files_of : F → Option Files) (h : History) (store : Cor
           stand = p.stand;
           order = p.order;
           partly = subst (Partly t.schema (live table t.schema h)) (rows_joined files_of t.schema table (parts_of store.set table) p.rows p.hold)
-              (parts_joined h table t.schema s.legal table_schema (core_parts table (parts_of store.set table) p.rows) p.stand p.order);
+              (subst (λ (ms : List Mutation). Partly t.schema (live table t.schema h) (rows_seen_of ms (core_parts table (parts_of store.set table) p.rows))) (s.unaltered table)
+              (parts_joined h table t.schema s.legal table_schema (core_parts table (parts_of store.set table) p.rows) p.stand p.order));
         }
 
   -- what a snapshot of the table says of the history

@@ -25,7 +25,7 @@ use Rattle.shared_store.specs.part_set.Sets.{parts_of}
 use Rattle.shared_store.specs.root_store.declared.store.CoreStore.{CoreStore}
 use Rattle.shared_store.specs.root_store.Soundness.{HasSoundParts, HoldsRows}
 use Rattle.shared_store.proofs.RootStoreTableMarks.{has_marks}
-use Rattle.select_plan.specs.Plans.{planned}
+use Rattle.final_fold.specs.select_plan.Plans.{planned}
 use Rattle.final_fold.specs.declared.asking.Wanted.{Wanted}
 use Rattle.final_fold.specs.Matches.{SayOfEach}
 use Rattle.final_fold.specs.row_merge.MergedParts.{PartsHold}

@@ -113,8 +113,8 @@ IsRefusal reply = (why : Refusal) × (reply ≡ refusal_line why)
 
 -- ---- damage
 
--- The reply tells of damage: of one of these parts of a table, and of a file of it. What was read there of a column is no spelling of a value of the
--- column's type for each of the part's rows (docs/replies.md, "Faults").
+-- The reply tells of damage: of one of these parts of a table, and of a file of it. What was read there of a granule of a column is no spelling of a value of
+-- the column's type for each of its rows; or what is kept of the part has other columns than the table (docs/replies.md, "Faults").
 pub record TellsOfPart {F : Type 0} (files_of : F → Option Files) (table : List ℕ) (schema : Schema) (parts : List (Kept (Part F))) (reply : List ℕ) : Type 0 where
   pub kept : Kept (Part F)
   pub here : HasItem parts kept

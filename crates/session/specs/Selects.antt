@@ -41,8 +41,8 @@ use Rattle.final_fold.specs.Folded.{ExplainsFold}
 use Rattle.final_fold.specs.Matches.{ExplainsMatches, matching}
 use Rattle.final_fold.specs.row_merge.MergedParts.{PartsHold}
 use Rattle.final_fold.specs.Scans.{joined_rows, values_at}
-use Rattle.select_plan.specs.declared.counting.Plan.{Plan}
-use Rattle.select_plan.specs.Plans.{asked_over, counts_over, planned}
+use Rattle.final_fold.specs.select_plan.declared.counting.Plan.{Plan}
+use Rattle.final_fold.specs.select_plan.Plans.{counts_over, planned}
 use Rattle.session.specs.Merges.{IsRefusal, TellsOfTable}
 
 -- what is read is what a query asks of a pinned table: its condition, and columns that it selects (docs/architecture.md, "The way of a SELECT")
@@ -73,10 +73,9 @@ pub record IsWantedOf {F : Type 0} (snap : Snap (Part F)) (w : Wanted) : Type 0 
   pub table : IsTableSchema w.schema.now
   pub wanted : IsWanted w
 
--- which granules are read, and which of them are asked, is what the plan says (docs/architecture.md, "The way of a SELECT")
-pub record IsPlanFor {F : Type 0} (plan : Plan) (snap : Snap (Part F)) (is_final : Bool) (w : Wanted) : Type 0 where
-  pub parts : plan.parts.items ≡ planned snap is_final w.condition.now
-  pub asked : plan.asked.items ≡ asked_over snap is_final w.condition.now
+-- which granules are read is what the plan says (docs/architecture.md, "The way of a SELECT")
+abbrev pub IsPlanFor : {F : Type 0} → Plan → Snap (Part F) → Bool → Wanted → Type 0
+IsPlanFor plan snap is_final w = plan.parts.items ≡ planned snap is_final w.condition.now
 
 -- What a SELECT sees is added to columns: of a table that stands for a history, where they were empty, the values of what it sees. They have as
 -- many values as rows were added, and 32 bits count these (docs/architecture.md, "The way of a SELECT").

@@ -11,12 +11,12 @@ ghost use Rattle.session.specs.Lapses.{Accounts, Never, still};
 ghost use Rattle.session.specs.Merges.{IsRefusal};
 ghost use Rattle.session.specs.Selects.{CountsFrom, CountsPlan};
 
+use final_fold::select_plan::plan;
 use mt_base::{NoMemory, Stop};
 use mt_outside::{Arm, Dir, Disk};
 use mt_values::{Annals, SelectText};
 use replies::mt_model::query_of;
 use replies::{Reply, explained, no_table_line};
-use select_plan::plan;
 use shared_store::Engine;
 use shared_store::part_reader::Part;
 use shared_store::part_set::Snap;

@@ -19,6 +19,7 @@ mod turns;
 pub use creates::create;
 pub use data::read_block;
 pub use explains::{count_reads, explain};
+pub use final_fold::row_merge;
 pub use inserts::insert;
 pub use laws::sound_parts_are_not_damaged;
 pub use merging::merge_work;

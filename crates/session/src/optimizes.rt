@@ -50,7 +50,7 @@ fn partitions_of<F: Dir>(alloc: Global, parts: &[Kept<Part<F>>]) -> Result<Vec<P
 /// table.
 ///
 /// `NoMemory` where an allocation failed; nothing changed.
-fn partitions_there<F: Dir, R: Arm<Dir = F>, D: Disk<Arm = R>, A: Annals>(
+fn listed_partitions<F: Dir, R: Arm<Dir = F>, D: Disk<Arm = R>, A: Annals>(
     alloc: Global,
     engine: &mut Engine<F, R, D, A>,
     table: &Name,
@@ -67,6 +67,38 @@ fn partitions_there<F: Dir, R: Arm<Dir = F>, D: Disk<Arm = R>, A: Annals>(
     let found = partitions_of(alloc, snap.parts.as_slice());
     engine.give_back(snap);
     Ok(Some(found?))
+}
+
+/// A list without partitions, where the table is there. Takes no memory.
+fn none_listed(alloc: Global, there: bool) -> Option<Vec<Partition>>
+    ensures { is_some result ≡ there }
+{
+    if there {
+        return Some(Vec::new(alloc));
+    }
+    None
+}
+
+/// The partitions of a table's parts, ascending, where the whole table is merged; else an empty list, for which no part is copied. None
+/// where there is no such table.
+///
+/// `NoMemory` where an allocation failed; nothing changed.
+fn partitions_there<F: Dir, R: Arm<Dir = F>, D: Disk<Arm = R>, A: Annals>(
+    alloc: Global,
+    engine: &mut Engine<F, R, D, A>,
+    table: &Name,
+    whole: bool,
+) -> Result<Option<Vec<Partition>>, NoMemory>
+    ensures none { IfOk result
+        (λ found. is_some found ≡ is_some (table_at engine.old.store table.now)) }
+    ensures found { whole ≡ true → IfOk result (λ found. IfSome found
+        (λ v. ArePartitionsOf (parts_of engine.old.store.set table.now) v.items)) }
+    ensures stays { engine.new ≡ engine.old }
+{
+    if whole {
+        return listed_partitions(alloc, engine, table);
+    }
+    Ok(none_listed(alloc, engine.has_table(table)))
 }
 
 /// Merges the pair of parts in a scope of a table that the policy takes, where there is one. The reply where the merge is refused.
@@ -158,8 +190,8 @@ fn merge_partitions<F: Dir, R: Arm<Dir = F>, D: Disk<Arm = R>, A: Annals>(
     Ok(None)
 }
 
-/// Does the merges of an OPTIMIZE on a table whose parts are of these partitions: of one of them where its text names one, else of the
-/// whole table. The reply where one is refused.
+/// Does the merges of an OPTIMIZE on a table: of the partition that its text names, else of the whole table, whose parts are of these
+/// partitions where the text asks for FINAL. The reply where one is refused.
 ///
 /// `NoMemory` where an allocation failed; what was put before stands.
 fn merge_as_asked<F: Dir, R: Arm<Dir = F>, D: Disk<Arm = R>, A: Annals>(
@@ -170,8 +202,8 @@ fn merge_as_asked<F: Dir, R: Arm<Dir = F>, D: Disk<Arm = R>, A: Annals>(
     partitions: &[Partition],
 ) -> Result<Option<Reply>, NoMemory>
     requires there { IsSome (table_at engine.old.store text.now.table) }
-    requires parts { ArePartitionsOf (parts_of engine.old.store.set text.now.table)
-        partitions.now }
+    requires parts { text.now.whole ≡ true
+        → ArePartitionsOf (parts_of engine.old.store.set text.now.table) partitions.now }
     requires free { HasNoMark engine.old.store }
     ensures merges { Merges F.files (R.tells arm.old ≡ true)
         (lapse engine.old engine.new (R.failed arm.old) (R.failed arm.new)) text.now.whole result }
@@ -226,7 +258,7 @@ pub fn optimize<F: Dir, R: Arm<Dir = F>, D: Disk<Arm = R>, A: Annals>(
     ensures leaves { Leaves F.files (R.tells arm.old ≡ true) engine.old engine.new }
     ensures tells { R.tells arm.new ≡ R.tells arm.old }
 {
-    let Some(partitions) = partitions_there(alloc, engine, &text.table)? else {
+    let Some(partitions) = partitions_there(alloc, engine, &text.table, text.whole)? else {
         return no_table_line(alloc, &text.table);
     };
     match merge_as_asked(alloc, engine, arm, text, partitions.as_slice()) {

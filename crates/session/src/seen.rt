@@ -4,10 +4,10 @@ ghost use Rattle.mt_outside.specs.Leaves.{LeavesArm};
 ghost use Rattle.final_fold.specs.Scans.{HaveTypes, rows_kept};
 ghost use Rattle.session.specs.Selects.{AddsSeen, IsPlanFor, IsWantedOf, SaysRead};
 
+use final_fold::select_plan::Plan;
 use final_fold::{Wanted, add_matches, final_rows};
 use mt_outside::Arm;
 use mt_values::ColumnData;
-use select_plan::Plan;
 use shared_store::part_name::PartName;
 use shared_store::part_reader::{Part, PartFault};
 use shared_store::part_set::Snap;
@@ -42,13 +42,5 @@ pub fn add_seen<R: Arm>(
     if is_final {
         return final_rows(alloc, arm, parts, chosen, wanted, columns);
     }
-    add_matches(
-        alloc,
-        arm,
-        parts,
-        chosen,
-        plan.asked.as_slice(),
-        wanted,
-        columns,
-    )
+    add_matches(alloc, arm, parts, chosen, wanted, columns)
 }

@@ -13,13 +13,13 @@ ghost use Rattle.session.specs.Lapses.{Accounts, still};
 ghost use Rattle.session.specs.Selects.{SelectsFrom, TellsOfDamage, TellsOfSelect};
 
 use crate::seen::add_seen;
+use final_fold::select_plan::plan;
 use final_fold::{Wanted, count_rows, pick_columns};
 use mt_base::{NoMemory, Stop};
 use mt_outside::{Arm, Dir, Disk, DiskError, Gate, Point, Who};
 use mt_values::{Annals, SelectText};
 use replies::mt_model::{Query, query_of};
 use replies::{Reply, damaged, failed_line, no_table_line, print, stage_line};
-use select_plan::plan;
 use shared_store::Engine;
 use shared_store::part_reader::{Part, PartFault, empty_columns};
 use shared_store::part_set::Snap;
@@ -50,8 +50,9 @@ fn read_matches<R: Arm>(
     ensures tells { R.tells arm.new ≡ R.tells arm.old }
 {
     let planned = plan(alloc, snap, query, text.is_final)?;
+    let own = query.condition.conjuncts(alloc)?;
     let picked = pick_columns(alloc, snap.schema.columns.len(), query.places.as_slice())?;
-    let conjuncts = planned.conjuncts.as_slice();
+    let conjuncts = own.as_slice();
     let wanted = Wanted {
         schema: &snap.schema,
         condition: &query.condition,

@@ -208,6 +208,7 @@ module _ {F : Type 0} where
             };
         no_other = λ u none. none_more u (x.no_other u (sym (here u) ∙ none));
         mutations = λ u. ap (λ (queue : Mutations). mutations_of queue u) s.mutations_are ∙ x.mutations u;
+        unaltered = x.unaltered;
       }
 
       pub held_alike : HasSoundParts files_of old → HasSoundParts files_of new

@@ -1,5 +1,5 @@
 // A root that is open, and its turns.
-ghost use Rattle.std.specs.Prelude.{◌≡◌, ◌<◌, IfOk, IsSome, IsTrue, Some, length};
+ghost use Rattle.std.specs.Prelude.{◌≡◌, ◌<◌, IfOk, IsSome, IsTrue, Some, is_some, length};
 ghost use Rattle.root_commits.specs.Commits.{insert_into, partition_of_block};
 ghost use Rattle.root_commits.specs.Publications.{adding};
 ghost use Rattle.root_commits.specs.Turns.{CommitsCreate, CommitsPart, storage};
@@ -112,6 +112,16 @@ impl<F: Dir, R: Arm<Dir = F>, D: Disk<Arm = R>, A: Annals> Engine<F, R, D, A> {
         match self.store.tables.get(table) {
             Some(found) => Ok(Some(found.schema.twin(alloc)?)),
             None => Ok(None),
+        }
+    }
+
+    /// Whether there is a table of this name. Takes no memory.
+    pub fn has_table(&self, table: &Name) -> bool
+        ensures { result ≡ is_some (table_at self.now.store table.now) }
+    {
+        match self.store.tables.get(table) {
+            Some(_) => true,
+            None => false,
         }
     }
 

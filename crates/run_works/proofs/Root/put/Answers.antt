@@ -1,6 +1,6 @@
 use Rattle.std.proofs.Common.{IfOk, subst}
-use Rattle.shared_store.proofs.RootStoreTableIndexes.{has_indexes}
-use Rattle.shared_store.proofs.RootStoreTableMarks.{has_marks}
+use Rattle.session.proofs.RootStoreTableIndexes.{has_indexes}
+use Rattle.session.proofs.RootStoreTableMarks.{has_marks}
 use Rattle.run_works.specs.Works.{MayBeMerged}
 use Rattle.run_works.proofs.Root.put.Goals as goal
 

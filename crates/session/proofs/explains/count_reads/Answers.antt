@@ -14,7 +14,7 @@ use Rattle.replies.proofs.Refusing.{explain_refused, explains_all}
 use Rattle.replies.proofs.Undamaged.{line_of}
 use Rattle.replies.specs.Foreseen.{history}
 use Rattle.shared_store.specs.root_store.Stores.{core_parts}
-use Rattle.select_plan.specs.Plans.{counts_over}
+use Rattle.final_fold.specs.select_plan.Plans.{counts_over}
 use Rattle.session.specs.Lapses.{Never}
 use Rattle.session.proofs.Accepting.{refused_as}
 use Rattle.session.proofs.Asking.{query_is}
@@ -59,7 +59,7 @@ returns-clause-counts g c =
     let snap = c.args.snap.now in
     let q = c.in-Ok.query in
     let asked : query_of snap.schema.columns text ≡ Ok q = ap (λ (cs : List Column). query_of cs text) (sym c.as_slice.ensures) ∙ c.in-Ok.ensures in
-    let counted = c.in-Some.ensures ∙ ap counts_over c.in_ok-planned.ensures.parts in
+    let counted = c.in-Some.ensures ∙ ap counts_over c.in_ok-planned.ensures in
     IfOk-weaker c.explained.result _ _ (λ reply is. inr (record { query = q; asked = asked; reply_is = is ∙ ap (λ n. explain_line n snap.length) counted })) c.explained.ensures
 
 -- the numbers of the plan
@@ -75,7 +75,7 @@ returns-clause-answers g c = λ kept store stands pinned.
     let asked : query_of schema.columns text ≡ Ok q = ap (λ (cs : List Column). query_of cs text) (sym c.as_slice.ensures) ∙ c.in-Ok.ensures in
     let ps : List Portion = map portion_of (core_parts text.table snap.parts.items held.rows) in
     let counted : c.in-Some.counts ≡ counts_of schema text.is_final q.condition ps =
-    c.in-Some.ensures ∙ ap counts_over (c.in_ok-planned.ensures.parts ∙ plan_is files schema q.condition text.table text.is_final snap.parts.items held.rows held.hold)
+    c.in-Some.ensures ∙ ap counts_over (c.in_ok-planned.ensures ∙ plan_is files schema q.condition text.table text.is_final snap.parts.items held.rows held.hold)
     ∙ counts_are schema text.is_final q.condition ps in
     let place : snap.length ≡ length kept.list = pinned.length_is ∙ (stands.length_is ∙ length_history kept) in
     IfOk-weaker c.explained.result _ _ (λ reply is n.

@@ -4,7 +4,7 @@ use Rattle.session.proofs.optimizes.merge_as_asked.Goals as goal
 
 -- all partitions of the table
 pub returns-in-None-clause-named : goal.returns-in-None-clause-named
-returns-in-None-clause-named g c = named_all g.row.R-Stage.Denot g.F.Dir.files (g.R.Arm.tells c.args.arm.now ≡ true) c.args.engine.now c.merge_partitions.new.engine (g.R.Arm.failed c.args.arm.now) (g.R.Arm.failed c.merge_partitions.new.arm) c.args.text.now c.args.partitions.now c.in-None.is c.requires.parts c.merge_partitions.result c.merge_partitions.ensures.each
+returns-in-None-clause-named g c = named_all g.row.R-Stage.Denot g.F.Dir.files (g.R.Arm.tells c.args.arm.now ≡ true) c.args.engine.now c.merge_partitions.new.engine (g.R.Arm.failed c.args.arm.now) (g.R.Arm.failed c.merge_partitions.new.arm) c.args.text.now c.args.partitions.now c.in-None.is (c.requires.parts c.if-text.true) c.merge_partitions.result c.merge_partitions.ensures.each
 
 -- a pair of the table
 pub returns-in-None-2-clause-named : goal.returns-in-None-2-clause-named

@@ -1,18 +1,13 @@
-use Rattle.std.proofs.Common.{List, is_some, ap, sym, subst}
-use Rattle.shared_store.specs.part_reader.declared.reading.Part.{Part}
-use Rattle.shared_store.specs.part_set.declared.kept.Kept.{Kept}
-use Rattle.shared_store.specs.part_set.Parts.{IsInBlockOrder}
-use Rattle.shared_store.specs.Engines.{Snaps}
+use Rattle.std.proofs.Common.{◌∙◌, sym}
+use Rattle.std.proofs.lemmas.Bool.{false≢true}
 use Rattle.session.proofs.optimizes.partitions_there.Goals as goal
 
--- there is no such table
-pub returns-in_default-clause-none : goal.returns-in_default-clause-none
-returns-in_default-clause-none g c = ap is_some (sym (subst (Snaps c.args.engine.now.store c.args.table.now) c.in_default.is c.in_ok-snap.ensures.snap))
+pub returns-then-whole-clause-found : goal.returns-then-whole-clause-found
+returns-then-whole-clause-found g c = λ _. c.listed_partitions.ensures.found
 
--- there is
-pub partitions_of-found-requires-after_bounds : goal.partitions_of-found-requires-after_bounds
-partitions_of-found-requires-after_bounds g c κs within =
-    subst (λ (ps : List (Kept (Part _))). IsInBlockOrder ps) (sym c.as_slice.ensures.value) (subst (Snaps c.args.engine.now.store c.args.table.now) c.in-Some.is c.in_ok-snap.ensures.snap).ordered
-
+-- no part is copied
 pub returns-clause-none : goal.returns-clause-none
-returns-clause-none g c = ap is_some (sym (subst (Snaps c.args.engine.now.store c.args.table.now) c.in-Some.is c.in_ok-snap.ensures.snap).there)
+returns-clause-none g c = c.none_listed.ensures ∙ c.has_table.ensures
+
+pub returns-clause-found : goal.returns-clause-found
+returns-clause-found g c = λ is. absurd (false≢true (sym c.if-whole.false ∙ is))

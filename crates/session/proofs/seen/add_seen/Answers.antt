@@ -1,12 +1,12 @@
 use Rattle.std.proofs.lemmas.Result.{IfOk-weaker}
-use Rattle.std.proofs.Common.{◌≡◌, ◌∙◌, Bool, List, IfErr, ap, arith, length, map, subst, sym}
+use Rattle.std.proofs.Common.{◌≡◌, ◌∙◌, Bool, List, ℕ, IfErr, ap, arith, length, map, subst, sym}
 use Rattle.mt_values.specs.Grid.{Cells}
 use Rattle.replies.specs.mt_model.Live.{live}
 use Rattle.shared_store.specs.part_reader.declared.reading.Part.{Part}
 use Rattle.shared_store.specs.part_set.declared.kept.Kept.{Kept}
 use Rattle.shared_store.proofs.RootStoreTableMarks.{has_marks}
-use Rattle.select_plan.specs.Plans.{asked_over, planned}
-use Rattle.final_fold.specs.Folded.{AreOfPartitions, ExplainsFold, StandByPartition}
+use Rattle.final_fold.specs.select_plan.Plans.{planned}
+use Rattle.final_fold.specs.Folded.{AreAdded, AreOfPartitions, ExplainsFold, StandByPartition}
 use Rattle.final_fold.specs.Matches.{ExplainsMatches, matching}
 use Rattle.final_fold.specs.row_merge.MergedParts.{PartsHold}
 use Rattle.final_fold.specs.Scans.{joined_rows, rows_kept, values_at}
@@ -26,7 +26,7 @@ returns-then-is_final-clause-seen g c =
     let w = c.args.wanted.now in
     let new = c.final_rows.new.columns in
     let parts_are = c.as_slice-parts.ensures.value in
-    let is = c.as_slice-chosen.ensures.value ∙ (c.requires.plan.parts ∙ ap (λ (f : Bool). planned snap f w.condition.now) c.if-is_final.true) in
+    let is = c.as_slice-chosen.ensures.value ∙ (c.requires.plan ∙ ap (λ (f : Bool). planned snap f w.condition.now) c.if-is_final.true) in
     adds_seen files snap c.args.is_final w c.args.columns.now new c.final_rows.result
     (λ h store table stands pinned empty.
     let asks = final_parts files snap w c.requires.wanted.schema c.requires.wanted.table c.requires.wanted.wanted h store table stands pinned c.as_slice-chosen.result.now is in
@@ -35,7 +35,9 @@ returns-then-is_final-clause-seen g c =
     (c.final_rows.ensures.values asks.rows (subst (λ (ps : List (Kept (Part _))). StandByPartition ps) (sym parts_are) asks.stand)
     (subst (λ (ps : List (Kept (Part _))). PartsHold files w.schema.now ps asks.rows) (sym parts_are) asks.hold)
     (subst (λ (ps : List (Kept (Part _))). AreOfPartitions w.schema.now ps asks.rows) (sym parts_are) asks.own) asks.skip empty))
-    c.final_rows.ensures.even c.final_rows.ensures.types c.final_rows.ensures.few
+    (λ zero. IfOk-weaker c.final_rows.result _ _ (λ (count : ℕ) (added : AreAdded c.args.columns.now new count). added.even zero) c.final_rows.ensures.added)
+    (IfOk-weaker c.final_rows.result _ _ (λ (count : ℕ) (added : AreAdded c.args.columns.now new count). added.types) c.final_rows.ensures.added)
+    (IfOk-weaker c.final_rows.result _ _ (λ (count : ℕ) (added : AreAdded c.args.columns.now new count). added.few) c.final_rows.ensures.added)
 
 pub returns-then-is_final-clause-fault : goal.returns-then-is_final-clause-fault
 returns-then-is_final-clause-fault g c =
@@ -43,7 +45,7 @@ returns-then-is_final-clause-fault g c =
     let snap = c.args.snap.now in
     let w = c.args.wanted.now in
     let parts_are = c.as_slice-parts.ensures.value in
-    let is = c.as_slice-chosen.ensures.value ∙ c.requires.plan.parts in
+    let is = c.as_slice-chosen.ensures.value ∙ c.requires.plan in
     (subst (λ (f : Bool). IfErr c.final_rows.result (ExplainsRead files f snap.parts.items (planned snap c.args.is_final w.condition.now) w)) (sym c.if-is_final.true)
     (subst (λ (ps : List (Kept (Part _))). IfErr c.final_rows.result (ExplainsFold files ps (planned snap c.args.is_final w.condition.now) w)) parts_are
     (subst (λ (ch : List (List Bool)). IfErr c.final_rows.result (ExplainsFold files c.as_slice-parts.result.now ch w)) is c.final_rows.ensures.damaged)))
@@ -56,11 +58,10 @@ returns-clause-seen g c =
     let w = c.args.wanted.now in
     let new = c.add_matches.new.columns in
     let parts_are = c.as_slice-parts.ensures.value in
-    let is = c.as_slice-chosen.ensures.value ∙ (c.requires.plan.parts ∙ ap (λ (f : Bool). planned snap f w.condition.now) c.if-is_final.false) in
-    let asked_is = c.as_slice.ensures.value ∙ (c.requires.plan.asked ∙ ap (λ (f : Bool). asked_over snap f w.condition.now) c.if-is_final.false) in
+    let is = c.as_slice-chosen.ensures.value ∙ (c.requires.plan ∙ ap (λ (f : Bool). planned snap f w.condition.now) c.if-is_final.false) in
     adds_seen files snap c.args.is_final w c.args.columns.now new c.add_matches.result
     (λ h store table stands pinned empty.
-    let asks = plain_parts files snap w c.requires.wanted.schema c.requires.wanted.table c.requires.wanted.wanted h store table stands pinned c.as_slice-chosen.result.now c.as_slice.result.now is asked_is in
+    let asks = plain_parts files snap w c.requires.wanted.schema c.requires.wanted.table c.requires.wanted.wanted h store table stands pinned c.as_slice-parts.result.now c.as_slice-chosen.result.now parts_are is in
     let hold = subst (λ (ps : List (Kept (Part _))). PartsHold files w.schema.now ps asks.rows) (sym parts_are) asks.hold in
     let rows = matching w.condition.now (joined_rows asks.rows) in
     ok_both c.add_matches.result (map (λ (x : Cells). x.values) new ≡ values_at rows w.places.now) (λ count. count ≡ length rows) (IsSeen files snap.parts.items w c.args.is_final (live table w.schema.now h) new)
@@ -76,7 +77,7 @@ returns-clause-fault g c =
     let snap = c.args.snap.now in
     let w = c.args.wanted.now in
     let parts_are = c.as_slice-parts.ensures.value in
-    let is = c.as_slice-chosen.ensures.value ∙ c.requires.plan.parts in
+    let is = c.as_slice-chosen.ensures.value ∙ c.requires.plan in
     (subst (λ (f : Bool). IfErr c.add_matches.result (ExplainsRead files f snap.parts.items (planned snap c.args.is_final w.condition.now) w)) (sym c.if-is_final.false)
     (subst (λ (ps : List (Kept (Part _))). IfErr c.add_matches.result (ExplainsMatches files ps (planned snap c.args.is_final w.condition.now) w)) parts_are
     (subst (λ (ch : List (List Bool)). IfErr c.add_matches.result (ExplainsMatches files c.as_slice-parts.result.now ch w)) is c.add_matches.ensures.damaged)))

@@ -16,7 +16,7 @@ use Rattle.shared_store.specs.part_reader.declared.reading.PartFault.{PartFault}
 use Rattle.shared_store.specs.part_reader.declared.reading.PartFault.TheVariants as fault
 use Rattle.shared_store.specs.part_reader.Faults.{IsNoDamage}
 use Rattle.shared_store.proofs.PartReaderCutRows.{empty_even, empty_many, lent_back, projected, typed_have_all}
-use Rattle.select_plan.specs.Plans.{planned}
+use Rattle.final_fold.specs.select_plan.Plans.{planned}
 use Rattle.final_fold.specs.Matches.{matching}
 use Rattle.final_fold.specs.Scans.{ArePlacesOf}
 use Rattle.final_fold.proofs.Picking.{shown_within}
@@ -74,7 +74,7 @@ add_seen-requires-clause-wanted g c κs within =
       table = c.requires.table;
       wanted = record {
         tests = All-map (λ place. place < length schema.columns) (λ (t : Test). t.column) (tests_of q.condition) (tests_below schema.columns text q c.requires.query);
-        conjuncts = c.as_slice-conjuncts.ensures.value ∙ c.in_ok-planned.ensures.conjuncts;
+        conjuncts = c.as_slice-conjuncts.ensures.value ∙ c.in_ok-own.ensures;
         places = read_below schema text.columns q.places read c.as_slice-2.result.now (query_places schema.columns text q c.requires.query)
             (subst (λ (ps : List ℕ). All (HasItem ps) read) c.as_slice.ensures c.in_ok-picked.ensures.selected) c.as_slice-2.ensures.value;
       };
@@ -82,7 +82,7 @@ add_seen-requires-clause-wanted g c κs within =
 
 -- as its plan says
 pub add_seen-requires-clause-plan : goal.add_seen-requires-clause-plan
-add_seen-requires-clause-plan g c κs within = record { parts = c.in_ok-planned.ensures.parts; asked = c.in_ok-planned.ensures.asked }
+add_seen-requires-clause-plan g c κs within = c.in_ok-planned.ensures
 
 -- the columns are there again, with as many values as rows met the condition
 pub print-requires-clause-even : goal.print-requires-clause-even
