@@ -4,7 +4,9 @@
     tests/answers.py < SCRIPT      prints the replies to a script over an empty root, and ends with the status of its run
     tests/answers.py cases         compares what it works out with the stdout of run_cases and of the cases of tests/built, where it can
     tests/answers.py fill < LINES  prints directives of run_cases with what they come to, to be put into its stdin and stdout
+    tests/answers.py compare < OUTPUT   compares what it works out with what run_cases printed
     tests/answers.py events SEED COUNT  prints that many random lists of events of the core, as directives of run_cases
+    tests/answers.py steps SEED COUNT   prints that many random lists of events with mutations and rewrites
 
 It knows CREATE, INSERT, SELECT, EXPLAIN and OPTIMIZE over what this and earlier runs accepted, merges by the policy of the run's words,
 a disk that stops or of which some calls fail, and what a crash may leave of its names. It is slow and plain: a SELECT asks each row, and
@@ -12,6 +14,7 @@ only an EXPLAIN looks at boxes. Where an EXPLAIN passes over a granule it asks e
 condition. Where an engine's rule leaves a choice that would show, it fails: no case may rest on the code's choice.
 """
 import collections
+import copy
 import hashlib
 import itertools
 import os
@@ -1157,6 +1160,267 @@ def course(events):
     return told % words
 
 
+# ---- events with mutations and rewrites, row by row
+
+EVENT_TABLES = {
+    "c": b"(a UInt8, b Int8, c UInt8) ENGINE = CollapsingMergeTree(b) ORDER BY a",
+    "d": b"(a UInt8, b UInt8, c UInt8, s Int8) ENGINE = VersionedCollapsingMergeTree(s, b) ORDER BY a",
+    "g": b"(a UInt8, b SimpleAggregateFunction(max, UInt8), c UInt8) ENGINE = AggregatingMergeTree ORDER BY a",
+    "m": b"(a UInt8, b UInt8, c UInt8) ENGINE = MergeTree ORDER BY a",
+    "n": b"(a UInt8, b UInt8, c UInt8) ENGINE = ReplacingMergeTree(b) ORDER BY a",
+    "p": b"(p UInt8, a UInt8) ENGINE = MergeTree PARTITION BY p ORDER BY a",
+    "q": b"(a UInt8, b UInt8, c UInt8) ENGINE = SummingMergeTree(b) ORDER BY a",
+    "r": b"(a UInt8, b UInt8) ENGINE = ReplacingMergeTree ORDER BY a",
+    "s": b"(a UInt8, b UInt8) ENGINE = SummingMergeTree(b) ORDER BY a",
+    "t": b"(a UInt8) ENGINE = MergeTree ORDER BY a",
+}
+
+
+def event_schema(table):
+    """The schema of a table of the events, by the first letter of its name."""
+    clauses = EVENT_TABLES.get(table[0], EVENT_TABLES["t"])
+    (_, create), _ = next(statements_of(b"CREATE TABLE t " + clauses + b";"))
+    return schema_of(create)
+
+
+class NotOne(Exception):
+    """An event that may not come."""
+
+
+class Declined(Exception):
+    """Why an event changes nothing."""
+
+
+def version_of(part):
+    """Up to which number mutations are in the rows of a part."""
+    return part["least"] if part["mutation"] is None else part["mutation"]
+
+
+def change_of(schema, word, *words):
+    """A change that rows of a table may have: what is assigned, nothing where rows are deleted, and the condition."""
+    place = lambda name: schema["names"].index(name.encode())
+    assigned = None
+    if word == "update":
+        assigned, texts, words = [], words[0].split(","), words[1:]
+        for name, value in (text.split("=") for text in texts):
+            read = place(value[0]) if value[0].isalpha() else None
+            more = int(value[1:] or 0) if read is not None else int(value)
+            assigned.append((place(name), read, more))
+    tests = [("test", place(words[0]), words[1].encode(), [int(words[2])])] if words else []
+    ask_for_change(schema, assigned or [], tests)
+    return assigned, ("and", tests)
+
+
+def ask_for_change(schema, assigned, tests):
+    """Refuses a change that rows of a table may not have: of key, partition, version, sign, sums and functions no column is assigned, of
+    the last four none is read; and but for MergeTree conditions ask of the key alone."""
+    engine, named = schema["engine"]
+    apart = set(schema["sorting"]) | {schema["partition"]}
+    kept = set(named) | {place for place, (_, _, function) in enumerate(schema["columns"]) if function}
+    touched = {place for place, read, _ in assigned for place in (place, read) if place is not None}
+    small = all(schema["columns"][place][1] == b"UInt8" for place in touched | {test[1] for test in tests})
+    if {place for place, _, _ in assigned} & apart or touched & kept or not small:
+        raise NotOne
+    if len({place for place, _, _ in assigned}) < len(assigned):
+        raise NotOne
+    if engine != PLAIN and any(test[1] not in schema["sorting"] for test in tests):
+        raise NotOne
+
+
+def changed(change, rows):
+    """Rows after a change."""
+    assigned, condition = change
+    if assigned is None:
+        return [row for row in rows if not meets(condition, row)]
+    found = []
+    for row in rows:
+        new = list(row)
+        for place, read, more in assigned if meets(condition, row) else []:
+            new[place] = more if read is None else (row[read] + more) % 256
+        found.append(new)
+    return found
+
+
+class Machine:
+    """The core while events come, row by row: the parts of each table with its mutations, and what each event gives."""
+
+    def __init__(self):
+        self.tables, self.snapshots, self.length = {}, [], 0
+
+    def found(self, table):
+        if table not in self.tables:
+            raise Declined("no such table")
+        return self.tables[table]
+
+    def accepted(self, word, name, *words):
+        """Accepts a command."""
+        change = change_of(event_schema(name), *words) if word == "alter" else None
+        if word == "create":
+            if name in self.tables:
+                raise Declined("the table is there")
+            self.tables[name] = {"schema": event_schema(name), "parts": [], "mutations": [], "last": 0}
+        else:
+            table = self.found(name)
+            table["last"] += 1
+            if word == "alter":
+                table["mutations"].append((table["last"], change))
+            else:
+                self.add_part(name, table, *map(int, words))
+        self.length += 1
+        return f"accepted {self.length}"
+
+    def add_part(self, name, table, *numbers):
+        """The part of an INSERT: two rows of a table with one column, or one row."""
+        schema, number = table["schema"], table["last"]
+        row = [*numbers, 0, 0][:len(schema["columns"])]
+        row = [(value and 1) or -1 if kind == b"Int8" else value for value, (_, kind, _) in zip(row, schema["columns"])]
+        rows = [row] if len(row) > 1 else sorted([number] for number in numbers[:2])
+        part = {"table": name, "partition": None if schema["partition"] is None else row[schema["partition"]], "rows": rows}
+        table["parts"].append(part | {"least": number, "greatest": number, "level": 0, "mutation": None})
+        table["parts"].sort(key=lambda part: (part["partition"] is not None, part["partition"], part["least"]))
+
+    def parts_in(self, name, id):
+        """The parts of a partition."""
+        return [part for part in self.found(name)["parts"] if text_of(part["partition"]).decode() == id]
+
+    def waiting(self, table, part):
+        """The mutations for which a part waits."""
+        return [mutation for mutation in table["mutations"] if mutation[0] > version_of(part)]
+
+    def merge(self, name, id, first, count):
+        """Merges neighbours."""
+        own, first, count = self.parts_in(name, id), int(first), int(count)
+        if not count or first + count > len(own):
+            raise Declined("no such neighbours")
+        sources, table = own[first:first + count], self.tables[name]
+        if any(self.waiting(table, left) != self.waiting(table, right) for left, right in zip(sources, sources[1:])):
+            raise Declined("a mutation parts two of them")
+        numbers = [part["mutation"] for part in sources if part["mutation"] is not None]
+        try:
+            part = merged(table["schema"], sources)
+        except AssertionError:
+            raise Unknown from None
+        return table, sources, part | {"mutation": max(numbers, default=None)}
+
+    def rewrite(self, name, id, first, count):
+        """Applies the first of the mutations for which a part waits."""
+        if name not in self.tables:
+            raise Declined("no such table")
+        own, first, count = self.parts_in(name, id), int(first), int(count)
+        if first >= len(own):
+            raise Declined("no such neighbours")
+        table, part = self.tables[name], own[first]
+        waiting = self.waiting(table, part)[:count]
+        if not count or len(waiting) < count:
+            raise NotOne
+        rows = part["rows"]
+        for _, change in waiting:
+            rows = changed(change, rows)
+        return table, [part], part | {"rows": rows, "mutation": waiting[-1][0]}
+
+    def put(self, word, *words):
+        """Puts what a merge or a rewrite leaves in the place of its sources."""
+        table, sources, part = (self.merge if word == "put" else self.rewrite)(*words)
+        parts = table["parts"]
+        parts[:] = [part if each is sources[0] else each for each in parts if all(each is not source for source in sources[1:])]
+        mutation = "" if part["mutation"] is None else f"_{part['mutation']}"
+        return f"put {text_of(part['partition']).decode()}_{part['least']}_{part['greatest']}_{part['level']}{mutation}"
+
+    def done(self, *words):
+        """An accept or a put."""
+        return (self.put if words[0] in ("put", "rewrite") else self.accepted)(*words)
+
+    def take(self, name):
+        """Takes a snapshot."""
+        table = self.found(name)
+        rows = []
+        for part in table["parts"]:
+            own = part["rows"]
+            for _, change in self.waiting(table, part):
+                own = changed(change, own)
+            rows += own
+        self.snapshots.append((rows, self.length))
+        return f"snapshot {len(self.snapshots) - 1}"
+
+    def read(self, number):
+        """Reads a snapshot."""
+        if int(number) >= len(self.snapshots):
+            raise Declined("no such snapshot")
+        rows, length = self.snapshots[int(number)]
+        return shown(b"".join(b"\t".join(b"%d" % value for value in row) + b"\n" for row in rows)).decode() + f" after {length}"
+
+    def crash(self, *words):
+        """A crash between events, or within an accept or a put, which is done or not."""
+        before = copy.deepcopy(self.tables), self.length
+        try:
+            if words:
+                self.done(*words[1:])
+        except Declined:
+            pass
+        if words and words[0] == "lost":
+            self.tables, self.length = before
+        self.snapshots = []
+        return "began again"
+
+    def event(self, word, *words):
+        """One event, and what it gives."""
+        try:
+            return getattr(self, word)(*words) if word in ("take", "read", "crash") else self.done(word, *words)
+        except Declined as why:
+            return str(why)
+        except NotOne:
+            return "may not come"
+
+
+def steps(events):
+    """What each event of a list gives. None leaves parts that do not stand."""
+    machine = Machine()
+    return "; ".join([machine.event(*event.split(" ")) for event in events] + ["the parts stand"]).encode()
+
+
+def drawn_change(dice, table):
+    """A random change, of which the rows of some tables may not have each."""
+    condition = dice.one_of(["", " a = 0", " a = 1", " a < 2", " a != 1", " a >= 1"] + [" b = 1", " c > 0"] * (table == "m"))
+    if table in "prst" or dice.below(3) == 0:
+        return "delete" + condition
+    values = ["c=7", "c=c+1", "c=c-1", "c=c+255", "c=a", "c=c"] + ["b=c,c=b", "b=b+200", "c=b,b=0"] * (table == "m" or dice.below(8) == 0)
+    return f"update {dice.one_of(values)}{condition}"
+
+
+def drawn_steps(dice):
+    """A random list of events with mutations and rewrites, of which the first two make tables."""
+    most, other = [dice.one_of("cdgmmnpqrst") for _ in range(2)]
+    events = [f"create {most}", f"create {other}"]
+
+    def accept(table):
+        if dice.below(12) == 0:
+            return f"create {table}"
+        if dice.below(5) < 2:
+            return f"alter {table} {drawn_change(dice, table)}"
+        fewest = {"c": 3, "d": 4, "g": 3, "m": 3, "n": 3, "q": 2}.get(table, 2)
+        return f"insert {table} {' '.join(str(dice.below(2 if place == 0 else 3)) for place in range(fewest))}"
+
+    def put(table):
+        id, first = dice.below(2) if table == "p" else "all", dice.below(3)
+        if dice.below(2) == 0:
+            return f"rewrite {table} {id} {first} {dice.below(3) or 1}"
+        return f"put {table} {id} {first} {dice.below(4)}"
+
+    for _ in range(dice.below(13) + 12):
+        table = other if dice.below(8) == 0 else most
+        kind = dice.below(16)
+        if kind <= 6:
+            events.append(accept(table))
+        elif kind <= 11:
+            events.append(put(table))
+        elif kind == 12:
+            kind, done = dice.below(5), ("done", "lost")[dice.below(2)]
+            events.append(f"crash {done} {accept(table) if kind < 3 else put(table)}" if kind else "crash")
+        else:
+            events.append(f"take {table}" if kind <= 13 else f"read {dice.below(2)}")
+    return events + ["crash", f"take {most}", "read 0", f"take {other}", "read 1"]
+
+
 # ---- random scripts over one small table
 
 DRAWN_COLUMNS = {
@@ -1411,6 +1675,8 @@ class Bench:
             yield b"%s and %s" % (*[schema_shown(made.commands[0][1])] * 2,)
         elif word == b"course":
             yield course(rest.decode().split(";"))
+        elif word == b"steps":
+            yield steps(rest.decode().split(";"))
         elif word == b"allows":
             yield b"true" if self.allows(rest) else b"false"
         elif word == b"names" and self.left is not None:
@@ -1432,7 +1698,7 @@ class Bench:
 
 
 RUNS = {b"run", b"again", b"check", b"probe", b"crash", b"crashes", b"stops", b"each", b"names", b"left"}
-KNOWN = RUNS | {b"allows", b"course", b"bytes", b"twin", b"#", b""}
+KNOWN = RUNS | {b"allows", b"course", b"steps", b"bytes", b"twin", b"#", b""}
 
 
 def choices_of(disk):
@@ -1451,12 +1717,8 @@ def fill(lines):
             sys.stdout.buffer.write(told + b"\n")
 
 
-def compare_cases():
-    """Compares the answers of run_cases that are worked out, and gives how many there are and those that differ."""
-    with open(os.path.join(CASES, "stdin"), "rb") as lines:
-        directives = lines.read().split(b"\n")
-    with open(os.path.join(CASES, "stdout"), "rb") as lines:
-        answers = lines.read().split(b"\n")
+def compare_answers(directives, answers):
+    """Compares the answers of directives that are worked out, and gives how many there are and those that differ."""
     bench, place, tried, differ = Bench(), 0, 0, []
     for directive in directives:
         while place < len(answers) and answers[place] != directive:
@@ -1467,6 +1729,20 @@ def compare_cases():
             if answers[number:number + 1] != [told]:
                 differ.append((told, answers[number] if number < len(answers) else b""))
     return tried, differ
+
+
+def compare_cases():
+    """Compares the answers of run_cases that are worked out."""
+    with open(os.path.join(CASES, "stdin"), "rb") as lines:
+        directives = lines.read().split(b"\n")
+    with open(os.path.join(CASES, "stdout"), "rb") as lines:
+        return compare_answers(directives, lines.read().split(b"\n"))
+
+
+def compare_output():
+    """Compares the answers of directives that the standard input has with them, as run_cases prints them."""
+    lines = sys.stdin.buffer.read().split(b"\n")
+    return compare_answers([line for line in lines if not line.startswith(b"  ")], lines)
 
 
 def compare_built():
@@ -1502,14 +1778,16 @@ def main():
     if sys.argv[1:] == ["fill"]:
         text = sys.stdin.buffer.read()
         fill(text.split(b"\n")[:-1])
-    elif sys.argv[1:2] == ["events"]:
+    elif sys.argv[1:2] in (["events"], ["steps"]):
         dice = Dice(int(sys.argv[2]))
-        print(f"case lists of events of seed {sys.argv[2]}")
+        word, drawn, title = ("course", drawn_events, "events") if sys.argv[1] == "events" else ("steps", drawn_steps, "events with mutations")
+        print(f"case lists of {title} of seed {sys.argv[2]}")
         for _ in range(int(sys.argv[3])):
-            print("course " + ";".join(drawn_events(dice)))
-    elif sys.argv[1:] == ["cases"]:
+            print(f"{word} " + ";".join(drawn(dice)))
+    elif sys.argv[1:] in (["cases"], ["compare"]):
         failed = False
-        for name, (tried, differ) in (("run_cases", compare_cases()), ("tests/built", compare_built())):
+        compared = {"standard input": compare_output} if sys.argv[1] == "compare" else {"run_cases": compare_cases, "tests/built": compare_built}
+        for name, (tried, differ) in ((name, compare()) for name, compare in compared.items()):
             for told, stood in differ:
                 print(f"worked out {told.decode('utf-8', 'backslashreplace')}\n   written {stood.decode('utf-8', 'backslashreplace')}")
             print(f"{name}: {tried} answers worked out, {len(differ)} differ")

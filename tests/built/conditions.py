@@ -45,7 +45,7 @@ def term(chance, depth):
         return "(" + condition(chance, depth - 1) + ")"
     column = chance.choice("pkvs")
     if chance.random() < 0.3:
-        return f"{column} IN ({', '.join(literal(chance, column) for _ in range(chance.randint(1, 4)))})"
+        return f"{column} IN ({', '.join(literal(chance, column) for _ in range(chance.randint(1, 9)))})"
     return f"{column} {chance.choice(SIGNS)} {literal(chance, column)}"
 
 

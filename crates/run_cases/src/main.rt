@@ -59,20 +59,31 @@
 //!   where the first fault is;
 //! - `block NUMBER`: how many rows a block without rows has, and one of a row with this number;
 //! - `core EVENT;EVENT ..`: what the core gives at each event, one after another, from the state before any event: `create TABLE`,
-//!   `insert TABLE NUMBER NUMBER`, `take TABLE`, `read SNAPSHOT`, `crash`, or `crash done` or `crash lost` with a create or an insert within
-//!   which the crash comes, and which is done or not. A table whose name begins with `p` has columns `p` and `a` of type UInt8, its partition
-//!   column and its key, and an insert adds one row of both numbers; one whose name begins with `r` or `s` has columns `a` and `b`, of which
-//!   `a` is the key, and an insert adds one row of both numbers, of which merges leave the last or the sum; each other table has one
-//!   column `a` of type UInt8, its key, and an insert adds a row of each number;
+//!   `insert TABLE NUMBER NUMBER ..`, `alter TABLE delete CONDITION`, `alter TABLE update NAME=VALUE,.. CONDITION`, `take TABLE`,
+//!   `read SNAPSHOT`, `crash`, or `crash done` or `crash lost` with an accept within which the crash comes, and which is done or not. A
+//!   value is a number, a column, or a column with a number after `+` or `-`; a condition is a column, a comparison and a number with
+//!   blanks between them, or nothing. Columns are of type UInt8, and signs of Int8, where 0 is -1; `a` is the key. By the first letter of
+//!   its name a table has columns `p` and `a` (`p`: its partition column is `p`), `a` and `b` (`r`: merges leave the last row; `s`: the
+//!   sum of `b`), `a`, `b` and `c` (`m`: merges leave all rows; `n`: that with the greatest `b`; `q`: the sum of `b`; `g`: the greatest
+//!   `b`; `c`: rows are cancelled by the sign `b`), or `a`, `b`, `c` and `s` (`d`: rows of one version `b` are cancelled by the sign `s`),
+//!   and an insert adds one row; each other table has one column `a`, and an insert adds a row of each of two numbers;
 //! - `course EVENT;EVENT ..`: what comes of events over such tables, one after another. There are also puts of merges, `put TABLE PARTITION
-//!   FIRST COUNT`, with the number of a partition or `all`, the place of the first part there and how many neighbours are merged, and crashes
-//!   within them, `crash done put ..` or `crash lost put ..`: how many of each outcome there were, and after how many events some visible
-//!   part of a table did not stand for the history;
+//!   FIRST COUNT`, with the number of a partition or `all`, the place of the first part there and how many neighbours are merged; puts of
+//!   rewrites, `rewrite TABLE PARTITION PLACE COUNT`, with the place of the part and how many of the mutations for which it waits are
+//!   applied; and crashes within them, `crash done put ..` or `crash lost put ..`: how many of each outcome there were, and after how many
+//!   events some visible part of a table did not stand for the history;
+//! - `steps EVENT;EVENT ..`: what each of such events gives, or that it may not come: a rewrite of a part that waits for fewer mutations,
+//!   or a mutation that the rows of its table may not have; and whether after each event the visible parts stood for the history;
 //! - `pin LENGTH NUMBER NUMBER`: what is pinned of a table with one part of two rows, at a length of the history: the schema, the part and
 //!   the length;
 //! - `twin KIND ..`: a value and its twins: `number NUMBER` (of 8, of 32 and of 64 bits), `name BYTES`, `type TYPE`, `schema SCRIPT` (of
 //!   the first table that a script makes), `row TYPE LINE`, `part NUMBER NUMBER` (what is kept of a part of two rows), or
-//!   `stored ROWS NAME`: a part with that many rows, of a folder that the last run left.
+//!   `stored ROWS NAME`: a part with that many rows, of a folder that the last run left;
+//! - `grow CREATE`: the script's bytes are lines of data of the table that the statement makes. A part of their rows is written at once, and
+//!   in each way of adding the first of them as a block and the others one by one: how many rows and files it has, and in how many of these
+//!   ways each file has the same bytes; then one is given up, and how many files a stage has that the arm makes after it;
+//! - `append FILE BYTES FILE BYTES ..`: the bytes of each file of a stage whose files grew by these pieces, in the order in which the files
+//!   were made, and whether they are synced.
 //!
 //! What engines' rules leave, of rows of small tables: `plain`, `replacing`, `replacing-version`, `summing`, `collapsing`, `versioned` or
 //! `aggregating`. A row is written in letters, one for each column of the table: the key, for `versioned` also the version; then for

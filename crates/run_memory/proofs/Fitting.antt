@@ -9,6 +9,7 @@ use Rattle.mt_values.specs.declared.schema.Schema.{Schema}
 use Rattle.mt_values.specs.declared.schema.SkipIndex.{SkipIndex}
 use Rattle.mt_values.specs.Grammar.{same_bytes}
 use Rattle.table_core.specs.mt_model.History.{History, IsInsertInto, IsTableSchema, first_of, schema_by, schema_of}
+use Rattle.table_core.specs.mt_model.Mutations.{IsChangeOf}
 use Rattle.table_core.specs.declared.event.Crash.TheVariants as crash
 use Rattle.table_core.specs.declared.event.Event.{Event}
 use Rattle.table_core.specs.declared.event.Event.TheVariants as event
@@ -19,7 +20,7 @@ use Rattle.table_core.specs.Runs.{AddAll, AddsEntries, HasEntries, MayRun}
 use Rattle.table_core.specs.Steps.{GivesOutcome, MayAccept, MayCome}
 use Rattle.table_core.proofs.Telling.{run_entries}
 use Rattle.table_core.proofs.MtModelTables.{same_is}
-use Rattle.run_memory.specs.Events.{AreOfEvents, Fits, FitsAccept, FitsAfter, IsOfEvents, begins_with, event_schema, of_lasts, of_numbers, of_sums, parted}
+use Rattle.run_memory.specs.Events.{AreOfEvents, Fits, FitsAccept, FitsAfter, IsOfEvents, begins_with, event_schema, marked_schema, of_greatest, of_lasts, of_marked_sums, of_newest, of_numbers, of_signs, of_sums, of_triples, of_versions, parted}
 
 found_by : (table : List ℕ) (h : History) (schema : Schema) (c : Command) → IsOfEvents c → first_of (schema_by table c) (schema_of table h) ≡ Some schema
     → (schema_of table h ≡ Some schema → schema ≡ event_schema table) → schema ≡ event_schema table
@@ -31,6 +32,7 @@ found_by table h schema (command.Create c) is first rest = named (same_bytes c.t
         subst (λ t. schema ≡ event_schema t) (same_is c.table table equal) (subst (λ s. s ≡ event_schema c.table) (sym one) is)
     named false apart same = rest same
 found_by table h schema (command.Insert i) is first rest = rest first
+found_by table h schema (command.Alter a) is first rest = rest first
 
 found : (table : List ℕ) (h : History) (schema : Schema) → AreOfEvents h → schema_of table h ≡ Some schema → schema ≡ event_schema table
 found table [] schema of is = cc
@@ -80,19 +82,98 @@ of_sums_is_table = record {
   few_indexes = omega arith;
 }
 
+of_signs_is_table : IsTableSchema of_signs
+of_signs_is_table = record {
+  sound = refl;
+  key = omega arith;
+  primary = omega arith;
+  own = All-from_recursion (λ (place : ℕ). place < length of_signs.columns) (0 ∷ []) (omega arith, tt);
+  few = omega arith;
+  indexed = All-nil (λ (index : SkipIndex). index.column < length of_signs.columns);
+  few_indexes = omega arith;
+}
+
+of_versions_is_table : IsTableSchema of_versions
+of_versions_is_table = record {
+  sound = refl;
+  key = omega arith;
+  primary = omega arith;
+  own = All-from_recursion (λ (place : ℕ). place < length of_versions.columns) (0 ∷ []) (omega arith, tt);
+  few = omega arith;
+  indexed = All-nil (λ (index : SkipIndex). index.column < length of_versions.columns);
+  few_indexes = omega arith;
+}
+
+of_greatest_is_table : IsTableSchema of_greatest
+of_greatest_is_table = record {
+  sound = refl;
+  key = omega arith;
+  primary = omega arith;
+  own = All-from_recursion (λ (place : ℕ). place < length of_greatest.columns) (0 ∷ []) (omega arith, tt);
+  few = omega arith;
+  indexed = All-nil (λ (index : SkipIndex). index.column < length of_greatest.columns);
+  few_indexes = omega arith;
+}
+
+of_triples_is_table : IsTableSchema of_triples
+of_triples_is_table = record {
+  sound = refl;
+  key = omega arith;
+  primary = omega arith;
+  own = All-from_recursion (λ (place : ℕ). place < length of_triples.columns) (0 ∷ []) (omega arith, tt);
+  few = omega arith;
+  indexed = All-nil (λ (index : SkipIndex). index.column < length of_triples.columns);
+  few_indexes = omega arith;
+}
+
+of_newest_is_table : IsTableSchema of_newest
+of_newest_is_table = record {
+  sound = refl;
+  key = omega arith;
+  primary = omega arith;
+  own = All-from_recursion (λ (place : ℕ). place < length of_newest.columns) (0 ∷ []) (omega arith, tt);
+  few = omega arith;
+  indexed = All-nil (λ (index : SkipIndex). index.column < length of_newest.columns);
+  few_indexes = omega arith;
+}
+
+of_marked_sums_is_table : IsTableSchema of_marked_sums
+of_marked_sums_is_table = record {
+  sound = refl;
+  key = omega arith;
+  primary = omega arith;
+  own = All-from_recursion (λ (place : ℕ). place < length of_marked_sums.columns) (0 ∷ []) (omega arith, tt);
+  few = omega arith;
+  indexed = All-nil (λ (index : SkipIndex). index.column < length of_marked_sums.columns);
+  few_indexes = omega arith;
+}
+
+marked_is_table : (table : List ℕ) → IsTableSchema (marked_schema table)
+marked_is_table table = by (begins_with 99 table) (begins_with 100 table) (begins_with 103 table) (begins_with 109 table) (begins_with 110 table) (begins_with 113 table)
+  where
+    by : (c d g m n q : Bool) → IsTableSchema (cond c of_signs (cond d of_versions (cond g of_greatest (cond m of_triples (cond n of_newest (cond q of_marked_sums of_numbers))))))
+    by true d g m n q = of_signs_is_table
+    by false true g m n q = of_versions_is_table
+    by false false true m n q = of_greatest_is_table
+    by false false false true n q = of_triples_is_table
+    by false false false false true q = of_newest_is_table
+    by false false false false false true = of_marked_sums_is_table
+    by false false false false false false = of_numbers_is_table
+
 -- each table of the events has a schema that a table may have
 is_table : (table : List ℕ) → IsTableSchema (event_schema table)
 is_table table = by (begins_with 112 table) (begins_with 114 table) (begins_with 115 table)
   where
-    by : (p r s : Bool) → IsTableSchema (cond p parted (cond r of_lasts (cond s of_sums of_numbers)))
+    by : (p r s : Bool) → IsTableSchema (cond p parted (cond r of_lasts (cond s of_sums (marked_schema table))))
     by true r s = parted_is_table
     by false true s = of_lasts_is_table
     by false false true = of_sums_is_table
-    by false false false = of_numbers_is_table
+    by false false false = marked_is_table table
 
 may_accept : (h : History) (c : Command) → AreOfEvents h → FitsAccept c → MayAccept h c
 may_accept h (command.Create c) of fits = subst IsTableSchema (sym fits) (is_table c.table)
 may_accept h (command.Insert i) of fits = λ schema is. subst (λ s. IsInsertInto s i) (sym (found i.table h schema of is)) fits
+may_accept h (command.Alter a) of fits = λ schema is. subst (λ s. IsChangeOf s a.change) (sym (found a.table h schema of is)) fits
 
 may_come : (core : Core) (e : Event) → AreOfEvents core.history → Fits e → MayCome core e
 may_come core (event.Accept e) of fits = may_accept core.history e.command of fits
@@ -110,6 +191,7 @@ both (e ∷ h) more a b = (a.0, both h more a.1 b)
 of_events : (c : Command) → FitsAccept c → IsOfEvents c
 of_events (command.Create c) fits = fits
 of_events (command.Insert i) fits = tt
+of_events (command.Alter a) fits = tt
 
 one_entry : (e : Entry) → FitsAccept e.command → AreOfEvents (e ∷ [])
 one_entry e fits = (of_events e.command fits, tt)

@@ -20,8 +20,10 @@ use Rattle.row_merge.proofs.HistoryRows.{are_part_rows, same_schema}
 use Rattle.table_core.specs.declared.event.Put.{Put}
 use Rattle.table_core.specs.declared.event.Event.{Event}
 use Rattle.table_core.specs.declared.event.Outcome.{Outcome}
+use Rattle.table_core.specs.declared.event.Task.{Task}
+use Rattle.table_core.specs.declared.event.Task.TheVariants as task
 use Rattle.table_core.specs.Core.{Core, IsCore, empty_core}
-use Rattle.table_core.specs.Steps.{GivesOutcome, MayPut, beside, sources_among}
+use Rattle.table_core.specs.Steps.{AreMade, GivesOutcome, MayPut, beside, sources_among}
 use Rattle.run_memory.specs.Events.{AreOfEvents, FitsAfter}
 use Rattle.run_memory.specs.Putting.{IsCourse, LeftOfRun, rows_of_each, run_of}
 use Rattle.run_memory.proofs.Fitting.{fitting_stays, has_table_schema, none_of_events}
@@ -57,9 +59,9 @@ with_own h [] all = tt
 with_own h (part ∷ parts) all = (All-head (PartStands h) part parts all, with_own h parts (All-tail (PartStands h) part parts all))
 
 -- a put may come whose rows are what a merge may leave of the rows of its sources
-pub put_may : (core : Core) (m : Put) (schema : Schema) (own : List (List Row)) → IsCore core → AreOfEvents core.history → schema_of m.sources.table core.history ≡ Some schema
+pub put_may : (core : Core) (m : Put) (schema : Schema) (own : List (List Row)) → m.task ≡ task.Merge → IsCore core → AreOfEvents core.history → schema_of m.sources.table core.history ≡ Some schema
     → own ≡ rows_of_each (parts_in m.sources.partition (beside core m.sources)) → LeftOfRun schema m.sources.first m.sources.count own m.rows → MayPut core m
-put_may core m schema own is of there own_is left = λ other others neighbours.
+put_may core m schema own merges is of there own_is left = λ other others neighbours.
     let h = core.history in
     let parts = beside core m.sources in
     let sources = sources_among parts m.sources in
@@ -80,12 +82,12 @@ put_may core m schema own is of there own_is left = λ other others neighbours.
     let long : length own ≡ length (parts_in m.sources.partition parts) = ap length own_is ∙ length-map (parts_in m.sources.partition parts) (λ (p : CorePart). p.rows) in
     let within : m.sources.first + m.sources.count ≤ length own = subst (λ (n : ℕ). m.sources.first + m.sources.count ≤ n) (sym long) neighbours.within in
     let merged : IsMergedOf schema m.sources.partition run m.rows = left within m.sources.partition (has_table_schema m.sources.table h schema of there) rows in
-    subst (λ (s : Schema). MergeLeaves h s sources m.rows) same (record {
+    subst (λ (t : Task). AreMade h other sources t m.rows) (sym merges) (subst (λ (s : Schema). MergeLeaves h s sources m.rows) same (record {
       inputs = run;
       stand = subst (AllZip (λ (p : CorePart) (rows : List Row). PartStands h (with_rows p rows)) sources) (sym run_is) (with_own h sources each);
       rising = merged.rows.rising;
       merges = merged.merges;
-    })
+    }))
 
 -- no part is there of a table that is not
 pub put_of_none : (core : Core) (m : Put) → schema_of m.sources.table core.history ≡ None → MayPut core m

@@ -3,11 +3,14 @@ use Rattle.std.specs.Prelude.{◌≡◌, ℕ, List, [], ◌∷◌, Bool, false, 
 use Rattle.mt_base.specs.Limits.{default_granularity}
 use Rattle.mt_values.specs.declared.command.Command.{Command}
 use Rattle.mt_values.specs.declared.command.Command.TheVariants as command
+use Rattle.mt_values.specs.declared.engine.Aggregate.TheVariants as aggregate
 use Rattle.mt_values.specs.declared.engine.Engine.{Engine}
 use Rattle.mt_values.specs.declared.engine.Engine.TheVariants as engine
+use Rattle.mt_values.specs.declared.schema.Column.{Column}
 use Rattle.mt_values.specs.declared.schema.Schema.{Schema}
 use Rattle.mt_values.specs.declared.value.ColType.TheVariants as type
 use Rattle.table_core.specs.mt_model.History.{History, IsInsertInto}
+use Rattle.table_core.specs.mt_model.Mutations.{IsChangeOf}
 use Rattle.table_core.specs.declared.event.Crash.{Crash}
 use Rattle.table_core.specs.declared.event.Crash.TheVariants as crash
 use Rattle.table_core.specs.declared.event.Event.{Event}
@@ -59,21 +62,81 @@ of_lasts = of_pairs (engine.Replacing None)
 abbrev pub of_sums : Schema
 of_sums = of_pairs (engine.Summing (1 ∷ []))
 
+-- the schema of a table whose rows have a mark: columns `a`, which is the key, and `c` of type UInt8, with a column between them, and an engine (docs/testing.md, "Cases: `run_cases`")
+abbrev pub of_marks : Engine → Column → Schema
+of_marks rule middle = record {
+  columns = record { name = codes "a"; col_type = type.UInt8; function = None } ∷ middle
+      ∷ record { name = codes "c"; col_type = type.UInt8; function = None } ∷ [];
+  engine = rule;
+  key = 0 ∷ [];
+  primary = 0 ∷ [];
+  partition = None;
+  granularity = default_granularity;
+  indexes = [];
+}
+
+-- a column `b` of type UInt8
+abbrev pub number_b : Column
+number_b = record { name = codes "b"; col_type = type.UInt8; function = None }
+
+-- the schema of a plain table whose rows have a mark (docs/testing.md, "Cases: `run_cases`")
+abbrev pub of_triples : Schema
+of_triples = of_marks engine.Plain number_b
+
+-- the schema of a table whose merges leave the row of each key with the greatest version, `b` (docs/testing.md, "Cases: `run_cases`")
+abbrev pub of_newest : Schema
+of_newest = of_marks (engine.Replacing (Some 1)) number_b
+
+-- the schema of a table whose merges leave the sum of each key, of `b` (docs/testing.md, "Cases: `run_cases`")
+abbrev pub of_marked_sums : Schema
+of_marked_sums = of_marks (engine.Summing (1 ∷ [])) number_b
+
+-- the schema of a table whose merges cancel rows by their sign, `b` (docs/testing.md, "Cases: `run_cases`")
+abbrev pub of_signs : Schema
+of_signs = of_marks (engine.Collapsing 1) (record { name = codes "b"; col_type = type.Int8; function = None })
+
+-- the schema of a table whose merges leave the greatest `b` of each key (docs/testing.md, "Cases: `run_cases`")
+abbrev pub of_greatest : Schema
+of_greatest = of_marks engine.Aggregating (record { name = codes "b"; col_type = type.UInt8; function = Some aggregate.Max })
+
+-- the schema of a table whose merges cancel rows of one version by their sign: columns `a`, which is the key, `b`, the version, `c` and the sign `s` (docs/testing.md, "Cases: `run_cases`")
+abbrev pub of_versions : Schema
+of_versions = record {
+  columns = record { name = codes "a"; col_type = type.UInt8; function = None } ∷ number_b
+      ∷ record { name = codes "c"; col_type = type.UInt8; function = None } ∷ record { name = codes "s"; col_type = type.Int8; function = None } ∷ [];
+  engine = engine.Versioned 3 1;
+  key = 0 ∷ [];
+  primary = 0 ∷ [];
+  partition = None;
+  granularity = default_granularity;
+  indexes = [];
+}
+
 -- whether a name begins with a letter
 abbrev pub begins_with : ℕ → List ℕ → Bool
 begins_with letter [] = false
 begins_with letter (first ∷ letters) = nat_eq first letter
 
+-- the schema of the table of this name, by its first letter: `c`, `d`, `g`, `m`, `n`, `q` or another (docs/testing.md, "Cases: `run_cases`")
+abbrev pub marked_schema : List ℕ → Schema
+marked_schema table =
+    if begins_with 99 table then of_signs
+    else (if begins_with 100 table then of_versions
+    else (if begins_with 103 table then of_greatest
+    else (if begins_with 109 table then of_triples
+    else (if begins_with 110 table then of_newest else (if begins_with 113 table then of_marked_sums else of_numbers)))))
+
 -- the schema of the table of this name, by its first letter: `p`, `r`, `s` or another (docs/testing.md, "Cases: `run_cases`")
 abbrev pub event_schema : List ℕ → Schema
 event_schema table =
     if begins_with 112 table then parted
-    else (if begins_with 114 table then of_lasts else (if begins_with 115 table then of_sums else of_numbers))
+    else (if begins_with 114 table then of_lasts else (if begins_with 115 table then of_sums else marked_schema table))
 
--- a CREATE makes such a table, and an INSERT has rows of such a table
+-- a CREATE makes such a table, an INSERT has rows of such a table, and a mutation changes rows of such a table
 abbrev pub FitsAccept : Command → Type 0
 FitsAccept (command.Create c) = c.schema ≡ event_schema c.table
 FitsAccept (command.Insert i) = IsInsertInto (event_schema i.table) i
+FitsAccept (command.Alter a) = IsChangeOf (event_schema a.table) a.change
 
 -- a crash comes between events, or within such an accept
 abbrev pub FitsCrash : Crash → Type 0
@@ -107,6 +170,7 @@ FitsAfter core (event.Crash c) = FitsCrashAfter core c
 abbrev pub IsOfEvents : Command → Type 0
 IsOfEvents (command.Create c) = c.schema ≡ event_schema c.table
 IsOfEvents (command.Insert i) = Unit {0}
+IsOfEvents (command.Alter a) = Unit {0}
 
 -- each table of a history is one of the events
 abbrev pub AreOfEvents : History → Type 0

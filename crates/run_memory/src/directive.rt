@@ -55,11 +55,14 @@ impl Bench {
             "block" => self.answer.block(rest),
             "core" => self.answer.core(rest),
             "course" => self.answer.course(rest),
+            "steps" => self.answer.steps(rest),
             "pin" => self.answer.pin(rest),
             "twin" => self.answer.twin(&self.left, rest),
             "fold" => self.answer.rules(rest, false),
             "merge" => self.answer.rules(rest, true),
             "random" => self.answer.random(rest),
+            "grow" => self.answer.grow(&self.script, rest),
+            "append" => self.answer.append(rest),
             _ => return false,
         }
         self.answer.put("\n");

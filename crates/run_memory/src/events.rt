@@ -4,33 +4,44 @@ ghost use Rattle.mt_values.specs.declared.engine.Engine.TheVariants as engines;
 ghost use Rattle.mt_values.specs.declared.value.ColType.TheVariants as types;
 ghost use Rattle.mt_values.specs.declared.value.Value.TheVariants as value;
 ghost use Rattle.table_core.specs.mt_model.History.{IsInsertInto};
+ghost use Rattle.table_core.specs.mt_model.Mutations.{IsChangeOf};
 ghost use Rattle.run_memory.specs.Events.{Fits, FitsAccept, FitsCrash, begins_with, event_schema, of_lasts, of_numbers, of_pairs, of_sums, parted};
 
 use crate::answer::Answer;
+use crate::changes::may_have;
+use crate::marks::{Numbers, marked_insert, marked_schema};
 use crate::text::first_word;
 use mt_base::{DEFAULT_GRANULARITY, NoMemory, Partition, Seq};
 use mt_values::{
-    Block, ColType, Column, Command, Create, Engine, Entry, Insert, Name, Row, Schema, Value,
+    Alter, Block, ColType, Column, Command, Create, Engine, Entry, Insert, Name, Row, Schema, Value,
 };
 use std::alloc::Global;
 use table_core::{Crash, Event, Guard, Outcome, run};
+
+/// A column whose name is one letter.
+pub fn column(alloc: Global, letter: u8, col_type: ColType) -> Result<Column, NoMemory>
+    ensures { IfOk result (λ column. column
+        ≡ record { name = letter ∷ []; col_type = col_type; function = None }) }
+{
+    let mut name = Seq::new(alloc);
+    name.push(letter)?;
+    Ok(Column {
+        name,
+        col_type,
+        function: None,
+    })
+}
 
 // A column of type UInt8, whose name is one letter.
 fn number_column(alloc: Global, letter: u8) -> Result<Column, NoMemory>
     ensures { IfOk result (λ column. column
         ≡ record { name = letter ∷ []; col_type = types.UInt8; function = None }) }
 {
-    let mut name = Seq::new(alloc);
-    name.push(letter)?;
-    Ok(Column {
-        name,
-        col_type: ColType::UInt8,
-        function: None,
-    })
+    column(alloc, letter, ColType::UInt8)
 }
 
-// The key of the column at a place alone.
-fn key_of(alloc: Global, place: u32) -> Result<Seq<u32>, NoMemory>
+/// The key of the column at a place alone.
+pub fn key_of(alloc: Global, place: u32) -> Result<Seq<u32>, NoMemory>
     ensures { IfOk result (λ key. key ≡ place ∷ []) }
 {
     let mut key = Seq::new(alloc);
@@ -92,15 +103,15 @@ fn pairs_schema(alloc: Global, engine: Engine) -> Result<Schema, NoMemory>
     })
 }
 
-// Whether the name of a table begins with a letter.
-fn begins_with(letter: u8, table: &Name) -> bool
+/// Whether the name of a table begins with a letter.
+pub fn begins_with(letter: u8, table: &Name) -> bool
     ensures { result ≡ begins_with letter table.now }
 {
     table.as_slice().first() == Some(&letter)
 }
 
 // The schema of a table of the events, by the first letter of its name: `p` has several partitions, merges leave the last row of each key
-// of `r` and the sum of each key of `s`, and others are plain.
+// of `r` and the sum of each key of `s`, rows of some others have a mark, and the rest are plain.
 fn event_schema(alloc: Global, table: &Name) -> Result<Schema, NoMemory>
     ensures { IfOk result (λ schema. schema ≡ event_schema table.now) }
 {
@@ -114,7 +125,7 @@ fn event_schema(alloc: Global, table: &Name) -> Result<Schema, NoMemory>
         let summed = key_of(alloc, 1)?;
         return pairs_schema(alloc, Engine::Summing(summed));
     }
-    numbers_schema(alloc)
+    marked_schema(alloc, table)
 }
 
 /// The row of a number.
@@ -135,8 +146,8 @@ fn pair_row(alloc: Global, first: u8, second: u8) -> Result<Row, NoMemory>
     Ok(row)
 }
 
-// Two rows of numbers, to be added to a table of the events that has one partition.
-fn whole_insert(alloc: Global, table: Name, first: u8, second: u8) -> Result<Insert, NoMemory>
+/// Two rows of numbers, to be added to a table of the events that has one partition.
+pub fn whole_insert(alloc: Global, table: Name, first: u8, second: u8) -> Result<Insert, NoMemory>
     ensures { IfOk result (λ insert. IsInsertInto of_numbers insert × (insert.table ≡ table)) }
 {
     let rows = [number_row(alloc, first)?, number_row(alloc, second)?];
@@ -179,17 +190,17 @@ fn pairs_insert(alloc: Global, table: Name, first: u8, second: u8) -> Result<Ins
     })
 }
 
-// The rows that two numbers give a table of the events.
-fn insert_of(alloc: Global, table: Name, first: u8, second: u8) -> Result<Insert, NoMemory>
+// The rows that numbers give a table of the events.
+fn insert_of(alloc: Global, table: Name, numbers: Numbers) -> Result<Insert, NoMemory>
     ensures { IfOk result (λ insert. IsInsertInto (event_schema insert.table) insert) }
 {
     if begins_with(b'p', &table) {
-        return parted_insert(alloc, table, first, second);
+        return parted_insert(alloc, table, numbers.first, numbers.second);
     }
     if begins_with(b'r', &table) || begins_with(b's', &table) {
-        return pairs_insert(alloc, table, first, second);
+        return pairs_insert(alloc, table, numbers.first, numbers.second);
     }
-    whole_insert(alloc, table, first, second)
+    marked_insert(alloc, table, numbers)
 }
 
 // What a refusal is called.
@@ -201,6 +212,7 @@ fn reason(guard: Guard) -> &'static str {
         Guard::Numbers => "no number is left",
         Guard::NoSnapshot => "no such snapshot",
         Guard::NotNeighbours => "no such neighbours",
+        Guard::Parted => "a mutation parts two of them",
         Guard::Levels => "the level is too great",
     }
 }
@@ -216,7 +228,41 @@ impl Answer {
         u8::try_from(self.number_of(word)).unwrap_or(u8::MAX)
     }
 
-    // A CREATE, as `create t`, or an INSERT of two numbers, as `insert t 3 1`: two rows, or a row of a table with several partitions.
+    // A number of one byte, 0 where nothing is written.
+    fn small_or_none(&mut self, word: &str) -> u8 {
+        if word.is_empty() {
+            return 0;
+        }
+        self.small_of(word)
+    }
+
+    // Two numbers, as `3 1`, or up to four.
+    fn numbers_of(&mut self, text: &str) -> Numbers {
+        let (first, rest) = first_word(text);
+        let (second, rest) = first_word(rest);
+        let (third, fourth) = first_word(rest);
+        Numbers {
+            first: self.small_of(first),
+            second: self.small_of(second),
+            third: self.small_or_none(third),
+            fourth: self.small_or_none(fourth),
+        }
+    }
+
+    // A mutation of a table, as `delete a < 2`; none where its rows may not have the change.
+    fn alter(&mut self, table: Name, text: &str) -> Option<Alter>
+        ensures { IfSome result (λ alter. IsChangeOf (event_schema alter.table) alter.change) }
+    {
+        let schema = event_schema(self.alloc, &table).ok()?;
+        let change = self.row_change(&schema, text)?;
+        if !may_have(&schema, &change) {
+            return None;
+        }
+        Some(Alter { table, change })
+    }
+
+    // A CREATE, as `create t`, a mutation, as `alter t delete a < 2`, or an INSERT of numbers, as `insert t 3 1`: two rows, or a row of a
+    // table that has more columns than one. None where the rows of a table may not have the change.
     fn accept(&mut self, text: &str) -> Option<Entry>
         ensures { IfSome result (λ entry. FitsAccept entry.command) }
     {
@@ -224,16 +270,19 @@ impl Answer {
         let (word, rest) = first_word(text);
         let (table, numbers) = first_word(rest);
         let table = self.table_of(table);
+        if word == "alter" {
+            let alter = self.alter(table, numbers)?;
+            let command = Command::Alter(alter);
+            return Some(Entry { session, command });
+        }
         if word == "create" {
             let schema = event_schema(self.alloc, &table).ok()?;
             let create = Create { table, schema };
             let command = Command::Create(create);
             return Some(Entry { session, command });
         }
-        let (first, second) = first_word(numbers);
-        let first = self.small_of(first);
-        let second = self.small_of(second);
-        let insert = insert_of(self.alloc, table, first, second).ok()?;
+        let numbers = self.numbers_of(numbers);
+        let insert = insert_of(self.alloc, table, numbers).ok()?;
         let command = Command::Insert(insert);
         Some(Entry { session, command })
     }
@@ -257,7 +306,7 @@ impl Answer {
     {
         let (word, rest) = first_word(text);
         match word {
-            "create" | "insert" => Some(Event::Accept(self.accept(text)?)),
+            "create" | "insert" | "alter" => Some(Event::Accept(self.accept(text)?)),
             "crash" => Some(Event::Crash(self.crash_of(rest)?)),
             "take" => {
                 let table = self.table_of(rest);
@@ -286,8 +335,8 @@ impl Answer {
         Some(events)
     }
 
-    // Prints what an event gave.
-    fn outcome(&mut self, outcome: &Outcome) {
+    /// Prints what an event gave.
+    pub fn outcome(&mut self, outcome: &Outcome) {
         match outcome {
             Outcome::Accepted { length } => self.counted("accepted ", *length),
             Outcome::Put { name } => {
@@ -324,7 +373,7 @@ impl Answer {
         };
         match done {
             Some(done) => self.outcomes(&done.outcomes),
-            None => self.note(false),
+            None => self.fail("such events may not come"),
         }
     }
 }

@@ -2,7 +2,7 @@
 use crate::answer::Answer;
 use disk_mem::{KeptAnnals, MemDir, MemDisk, MemSink};
 use mt_outside::{Disk, DiskError, Written};
-use mt_values::{Entry, FileId, Name};
+use mt_values::{Command, Entry, FileId, Name};
 use std::alloc::Global;
 
 /// Where it is set in a choice, a crash leaves half of each file that was not synced, filled with zeros.
@@ -87,10 +87,27 @@ impl Answer {
         }
     }
 
+    // Prints a command that was accepted, as it is shown for debugging; of a mutation the table, since no statement makes one.
+    fn accepted(&mut self, entry: &Entry) {
+        let session = entry.session;
+        let put = match &entry.command {
+            Command::Create(create) => write!(self.text, "{session} {create:?} ").is_ok(),
+            Command::Insert(insert) => write!(self.text, "{session} {insert:?} ").is_ok(),
+            Command::Alter(alter) => {
+                let table = &alter.table;
+                write!(self.text, "{session} {table:?} ").is_ok()
+            }
+        };
+        self.note(put);
+    }
+
     /// Prints all that a run tells: its status, the commands that were accepted, as they are shown for debugging, and what was written.
     pub fn told(&mut self, status: u8, entries: &[Entry], written: &[u8]) {
-        let put = write!(self.text, "{status} {entries:?} ").is_ok();
-        self.note(put);
+        self.number(u64::from(status));
+        self.put(" ");
+        for entry in entries {
+            self.accepted(entry);
+        }
         self.escaped(written);
     }
 

@@ -1,41 +1,101 @@
-// Whether the visible parts of a table stand for what was inserted into it, as the plain program says.
+// Whether the visible parts of a table stand for what was inserted into it and how that was changed, as the plain program says.
 use mt_base::{NoMemory, Partition, Twin};
-use mt_plain::{Order, Portion, all_merged, compare, portions_of, same_partition, sorted_rows};
-use mt_values::{Aggregate, Entry, Name, Row, Schema};
+use mt_plain::on_fly::change_rows;
+use mt_plain::{Order, all_merged, compare, rows_of, same_partition, sorted_rows};
+use mt_values::{Aggregate, Alter, Command, Entry, Insert, Name, Row, Schema};
 use std::alloc::Global;
 use table_core::part_history::CorePart;
+use table_core::part_name::data_version;
 
-// Whether an INSERT of a number, from 1, is in a part by its partition and its number.
-fn is_in(part: &CorePart, partition: Partition, number: usize) -> bool {
-    let number = number as u64;
+// Whether an INSERT into a partition, of this number of its table, is in a part.
+fn is_in(part: &CorePart, partition: Partition, number: u64) -> bool {
     same_partition(part.name.partition, partition)
         && u64::from(part.name.min_block) <= number
         && number <= u64::from(part.name.max_block)
 }
 
-// Whether each INSERT is in one part.
-fn are_once(parts: &[CorePart], inserts: &[Portion]) -> bool {
-    for (place, insert) in inserts.iter().enumerate() {
-        let mut found = 0usize;
-        for part in parts {
-            if is_in(part, insert.partition(), place.saturating_add(1)) {
-                found = found.saturating_add(1);
-            }
+// In how many of the parts it is.
+fn times_in(parts: &[CorePart], partition: Partition, number: u64) -> usize {
+    let mut found = 0usize;
+    for part in parts {
+        if is_in(part, partition, number) {
+            found = found.saturating_add(1);
         }
-        if found != 1 {
-            return false;
+    }
+    found
+}
+
+// What a command is for a table: an INSERT into it, a mutation of it, or nothing that draws a number of it.
+#[derive(Drop)]
+enum Drawn<'a> {
+    Insert(&'a Insert),
+    Alter(&'a Alter),
+    Nothing,
+}
+
+// What a command is for a table.
+fn what_draws<'a>(table: &Name, entry: &'a Entry) -> Drawn<'a> {
+    match &entry.command {
+        Command::Insert(insert) if insert.table == *table => Drawn::Insert(insert),
+        Command::Alter(alter) if alter.table == *table => Drawn::Alter(alter),
+        _ => Drawn::Nothing,
+    }
+}
+
+// Whether each INSERT into a table is in one part.
+fn are_once(table: &Name, parts: &[CorePart], history: &[Entry]) -> bool {
+    let mut number = 0u64;
+    for entry in history {
+        let here = what_draws(table, entry);
+        if let Drawn::Nothing = here {
+            continue;
+        }
+        number = number.saturating_add(1);
+        if let Drawn::Insert(insert) = here {
+            if times_in(parts, insert.partition, number) != 1 {
+                return false;
+            }
         }
     }
     true
 }
 
-// Whether there is an INSERT of this number, from 1, into a partition.
-fn is_insert(inserts: &[Portion], partition: Partition, number: u32) -> bool {
-    let before = (number as usize).saturating_sub(1);
-    match inserts.get(before) {
-        Some(insert) => number > 0 && same_partition(insert.partition(), partition),
-        None => false,
+// Whether this number of a table is an INSERT's into a partition.
+fn is_insert(table: &Name, history: &[Entry], partition: Partition, wanted: u32) -> bool {
+    let mut number = 0u64;
+    for entry in history {
+        let here = what_draws(table, entry);
+        if let Drawn::Nothing = here {
+            continue;
+        }
+        number = number.saturating_add(1);
+        if number == u64::from(wanted) {
+            return match here {
+                Drawn::Insert(insert) => same_partition(insert.partition, partition),
+                _ => false,
+            };
+        }
     }
+    false
+}
+
+// Whether this number of a table is a mutation's.
+fn is_mutation(table: &Name, history: &[Entry], wanted: u32) -> bool {
+    let mut number = 0u64;
+    for entry in history {
+        let here = what_draws(table, entry);
+        if let Drawn::Nothing = here {
+            continue;
+        }
+        number = number.saturating_add(1);
+        if number == u64::from(wanted) {
+            return match here {
+                Drawn::Alter(_) => true,
+                _ => false,
+            };
+        }
+    }
+    false
 }
 
 // Adds copies of rows.
@@ -46,12 +106,32 @@ fn add_copies(alloc: Global, rows: &mut Vec<Row>, more: &[Row]) -> Result<(), No
     Ok(())
 }
 
-// The rows of the INSERTs that are in a part, one INSERT after another.
-fn rows_in(alloc: Global, part: &CorePart, inserts: &[Portion]) -> Result<Vec<Row>, NoMemory> {
+// The rows that the name of a part reaches: those of the INSERTs in it, changed by each mutation up to its version when that came.
+fn rows_in(
+    alloc: Global,
+    table: &Name,
+    schema: &Schema,
+    part: &CorePart,
+    history: &[Entry],
+) -> Result<Vec<Row>, NoMemory> {
     let mut rows = Vec::new(alloc);
-    for (place, insert) in inserts.iter().enumerate() {
-        if is_in(part, insert.partition(), place.saturating_add(1)) {
-            add_copies(alloc, &mut rows, insert.rows())?;
+    let mut number = 0u64;
+    for entry in history {
+        match what_draws(table, entry) {
+            Drawn::Insert(insert) => {
+                number = number.saturating_add(1);
+                if is_in(part, insert.partition, number) {
+                    let own = rows_of(alloc, &insert.block)?;
+                    rows.append(&mut sorted_rows(alloc, Order::Table(schema), own)?)?;
+                }
+            }
+            Drawn::Alter(alter) => {
+                number = number.saturating_add(1);
+                if number <= u64::from(data_version(&part.name)) {
+                    change_rows(alloc, &alter.change, &mut rows)?;
+                }
+            }
+            Drawn::Nothing => {}
         }
     }
     Ok(rows)
@@ -115,17 +195,27 @@ fn are_left(alloc: Global, schema: &Schema, rows: &[Row], left: &[Row]) -> Resul
     Ok(seen == left.len())
 }
 
-// Whether a part stands for the INSERTs that are in it.
+// Whether the last mutation that was applied to a part, where its name has one, is a mutation of its table.
+fn was_mutated(table: &Name, part: &CorePart, history: &[Entry]) -> bool {
+    match part.name.mutation {
+        Some(number) => is_mutation(table, history, number),
+        None => true,
+    }
+}
+
+// Whether a part stands for the INSERTs that are in it, after the mutations up to its version.
 fn part_stands(
     alloc: Global,
+    table: &Name,
     schema: &Schema,
     part: &CorePart,
-    inserts: &[Portion],
+    history: &[Entry],
 ) -> Result<bool, NoMemory> {
     let name = &part.name;
-    let ends = is_insert(inserts, name.partition, name.min_block)
-        && is_insert(inserts, name.partition, name.max_block);
-    let rows = rows_in(alloc, part, inserts)?;
+    let ends = is_insert(table, history, name.partition, name.min_block)
+        && is_insert(table, history, name.partition, name.max_block)
+        && was_mutated(table, part, history);
+    let rows = rows_in(alloc, table, schema, part, history)?;
     let left = part.rows.as_slice();
     Ok(
         ends && name.min_block <= name.max_block
@@ -135,7 +225,7 @@ fn part_stands(
 }
 
 /// Whether parts stand for a history as those of a table: each INSERT into it is in one part, and each part has what merges may leave of
-/// the rows of its INSERTs.
+/// the rows of its INSERTs after the mutations up to its version.
 pub fn stand(
     alloc: Global,
     table: &Name,
@@ -143,11 +233,10 @@ pub fn stand(
     parts: &[CorePart],
     history: &[Entry],
 ) -> Result<bool, NoMemory> {
-    let inserts = portions_of(alloc, table, schema, history)?;
     for part in parts {
-        if part.table != *table || !part_stands(alloc, schema, part, &inserts)? {
+        if part.table != *table || !part_stands(alloc, table, schema, part, history)? {
             return Ok(false);
         }
     }
-    Ok(are_once(parts, &inserts))
+    Ok(are_once(table, parts, history))
 }

@@ -1,0 +1,9 @@
+use Rattle.std.proofs.Common.{[], ap, sym, ◌∙◌}
+use Rattle.mt_values.specs.Schemas.{column_types}
+use Rattle.run_memory.proofs.growing.part_by_rows.Goals as goal
+
+pub add_rows-requires-clause-whole : goal.add_rows-requires-clause-whole
+add_rows-requires-clause-whole c = record { rows = []; has = c.in_ok-out.ensures.rows }
+
+pub add_rows-requires-clause-types : goal.add_rows-requires-clause-types
+add_rows-requires-clause-types c = c.requires.types ∙ ap column_types (sym c.in_ok-out.ensures.schema)
