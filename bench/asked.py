@@ -11,6 +11,8 @@ print other replies. The kinds are
             for a half of it
   points    100 SELECTs of all columns of the row of one key each
   ranges    100 SELECTs of all columns of a thousandth of the rows each, by their keys
+  lists     one SELECT each of two columns of the rows whose `a` is one of 100, of 1000 and of 5000 numbers of rows, by IN
+  ands      one SELECT of the keys of the rows that meet 5000 tests of `a`, which nearly all do, joined by AND
 The folders are in TMPDIR, or, where it is not set, in /dev/shm.
 """
 import os
@@ -21,6 +23,8 @@ import tempfile
 
 HERE = pathlib.Path(__file__).resolve().parent
 SELECTS = 100
+LISTS = [100, 1000, 5000]
+TESTS = 5000
 
 
 def keys_of(script):
@@ -28,8 +32,20 @@ def keys_of(script):
     return sorted(int(line.split(b"\t", 1)[0]) for line in script.split(b"\n") if b"\t" in line)
 
 
+def lists_of(script):
+    """The scripts of SELECTs by IN, each of some numbers of rows in their order there."""
+    numbers = [line.split(b"\t")[1].decode() for line in script.split(b"\n") if b"\t" in line]
+    chosen = {count: numbers[:: max(len(numbers) // count, 1)][:count] for count in LISTS}
+    return {f"IN of {count}": f"SELECT k, b FROM e WHERE a IN ({', '.join(listed)});\n" for count, listed in chosen.items()}
+
+
 def scripts_of(kind, script):
     """The scripts of SELECTs of a kind, by what they ask."""
+    if kind == "lists":
+        return lists_of(script)
+    if kind == "ands":
+        tests = " AND ".join(f"a < {2**32 - 1 - number}" for number in range(TESTS))
+        return {f"{TESTS} tests": f"SELECT k FROM e WHERE {tests};\n"}
     if kind == "scan":
         select, part, half = "SELECT k, b FROM e WHERE a >= %d AND a < %d;\n", 2**32 // 100, 2**31
         hundredths = [select % (number * part, (number + 1) * part) for number in range(10)]

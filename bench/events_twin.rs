@@ -296,15 +296,27 @@ fn print(columns: &Columns, order: &[u32], length: usize) -> io::Result<Vec<u8>>
     Ok(out)
 }
 
-/// A test of a condition: its column, and the least and the greatest number that meet it.
+/// A test of a condition: its column, the least and the greatest number that meet it, and where these are those of IN all of them, sorted.
 struct Test {
     column: usize,
     least: i128,
     greatest: i128,
+    listed: Vec<i128>,
+}
+
+/// The test of a text such as `a IN (5, 7)`.
+fn list_of(column: usize, text: &str) -> Option<Test> {
+    let numbers = text.strip_prefix('(')?.strip_suffix(')')?;
+    let mut listed = numbers.split(", ").map(|number| number.parse().ok()).collect::<Option<Vec<i128>>>()?;
+    listed.sort_unstable();
+    Some(Test { column, least: *listed.first()?, greatest: *listed.last()?, listed })
 }
 
 /// The test of a text such as `a < 5`.
 fn test_of(text: &str) -> Option<Test> {
+    if let Some((name, numbers)) = text.split_once(" IN ") {
+        return list_of(NAMES.iter().position(|&other| other == name && other != "s")?, numbers);
+    }
     let words: Vec<&str> = text.split(' ').collect();
     let &[name, sign, number] = words.as_slice() else { return None };
     let column = NAMES.iter().position(|&other| other == name && other != "s")?;
@@ -317,12 +329,22 @@ fn test_of(text: &str) -> Option<Test> {
         ">=" => (number, i128::MAX),
         _ => return None,
     };
-    Some(Test { column, least, greatest })
+    Some(Test { column, least, greatest, listed: Vec::new() })
 }
 
 impl Test {
     fn meets(&self, row: &Row) -> bool {
-        (self.least..=self.greatest).contains(&row[self.column].number())
+        self.is_met(row[self.column].number())
+    }
+
+    fn is_met(&self, number: i128) -> bool {
+        (self.least..=self.greatest).contains(&number) && (self.listed.is_empty() || self.listed.binary_search(&number).is_ok())
+    }
+
+    /// Whether a number from the one to the other may meet it.
+    fn may_be_met(&self, from: i128, to: i128) -> bool {
+        let first = self.listed.partition_point(|&number| number < from);
+        from <= self.greatest && self.least <= to && (self.listed.is_empty() || self.listed.get(first).is_some_and(|&number| number <= to))
     }
 }
 
@@ -409,8 +431,8 @@ impl Part {
     fn chosen(&self, tests: &[Test]) -> Vec<usize> {
         let keys = &self.granules.as_ref().unwrap().keys;
         let may_meet = |test: &Test, granule: usize| match (test.column, self.partition) {
-            (KEY, _) => i128::from(keys[granule]) <= test.greatest && test.least <= keys[granule + 1].into(),
-            (PARTITION, Some(number)) => (test.least..=test.greatest).contains(&number.into()),
+            (KEY, _) => test.may_be_met(keys[granule].into(), keys[granule + 1].into()),
+            (PARTITION, Some(number)) => test.is_met(number.into()),
             _ => true,
         };
         let all = 0..keys.len() - 1;
@@ -448,7 +470,7 @@ impl Part {
             }
             let bytes = read[test.column].as_ref().unwrap();
             for (place, is_kept) in keep.iter_mut().enumerate() {
-                *is_kept &= (test.least..=test.greatest).contains(&number_at(test.column, bytes, place));
+                *is_kept &= test.is_met(number_at(test.column, bytes, place));
             }
         }
         let (matched, keep_matched) = self.matched(&chosen, &keep);
