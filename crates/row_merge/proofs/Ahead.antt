@@ -29,7 +29,7 @@ module _ (places : List ℕ) (row : Row) where
   NotAfter x = is_lt (key_cmp places x row) ≡ false
 
   -- what holds of the first row of an input in order holds of all
-  whole_before : (rows rest : List Row) → (rows ≡ [] → rest ≡ []) → All Before (take 1 rows) → IsSorted cmp (rows ++ rest) → All Before (rows ++ rest)
+  pub whole_before : (rows rest : List Row) → (rows ≡ [] → rest ≡ []) → All Before (take 1 rows) → IsSorted cmp (rows ++ rest) → All Before (rows ++ rest)
   whole_before [] rest ready lead sorted = All-same Before rest [] (ready refl) (All-nil Before)
   whole_before (x ∷ xs) rest ready lead sorted =
       let less : key_cmp places row x ≡ Less = All-head Before x (take zero xs) lead in
@@ -44,7 +44,7 @@ module _ (places : List ℕ) (row : Row) where
       All-cons NotAfter x (xs ++ rest) least (All-weaker (λ y. is_lt (cmp y x) ≡ false) NotAfter (λ y k. at_most_trans cmp o row x y least k) (xs ++ rest) up.0)
 
   -- what holds of the first rows of inputs holds of all their rows
-  all_not_after : (ahead rests : List (List Row)) → AreReady ahead rests → All (λ others. All NotAfter (take 1 others)) ahead → All (IsSorted cmp) (joined ahead rests) → All NotAfter (rows_of_all (joined ahead rests))
+  pub all_not_after : (ahead rests : List (List Row)) → AreReady ahead rests → All (λ others. All NotAfter (take 1 others)) ahead → All (IsSorted cmp) (joined ahead rests) → All NotAfter (rows_of_all (joined ahead rests))
   all_not_after [] rests ready leads sorted = All-nil NotAfter
   all_not_after (rows ∷ ahead) [] ready leads sorted = absurd ready
   all_not_after (rows ∷ ahead) (rest ∷ rests) ready leads sorted =

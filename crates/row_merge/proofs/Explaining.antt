@@ -1,6 +1,7 @@
 -- Readers that go on, and why one of them failed.
-use Rattle.std.proofs.Common.{◌≡◌, ℕ, zero, suc, inr, List, [], ◌∷◌, get_or, set, slice_get, Option, None, Some, refl, sym, ap, ◌∙◌, subst}
+use Rattle.std.proofs.Common.{◌≡◌, ℕ, zero, suc, ◌<◌, inr, List, [], ◌∷◌, arith, length, get_or, set, slice_get, Option, Some, refl, sym, ap, ◌∙◌, subst}
 use Rattle.std.specs.List.{AllZip}
+use Rattle.std.proofs.lemmas.Option.{slice_get_read}
 use Rattle.mt_values.specs.declared.schema.Schema.{Schema}
 use Rattle.mt_values.specs.declared.value.ColType.{ColType}
 use Rattle.mt_values.specs.Grid.{Grid}
@@ -10,13 +11,13 @@ use Rattle.part_history.specs.part_name.declared.part.PartName.{PartName}
 use Rattle.part_reader.specs.declared.reading.Part.{Part}
 use Rattle.part_reader.specs.declared.reading.PartFault.{PartFault}
 use Rattle.part_reader.specs.declared.reading.PartFault.TheVariants.{Fault, NoMemory, Damaged}
-use Rattle.part_reader.specs.Faults.{ExplainsAt}
+use Rattle.part_reader.specs.Faults.{ExplainsAt, IsNoDamage}
 use Rattle.part_reader.specs.Granules.{column_in}
 use Rattle.part_reader.specs.Readings.{ExplainsLeft, GivesGranule, Reading}
 use Rattle.part_reader.proofs.LeftGranules.{given_among}
 use Rattle.part_set.specs.declared.kept.Kept.{Kept}
 use Rattle.row_merge.specs.declared.streams.Inputs.{Inputs}
-use Rattle.row_merge.specs.MergedParts.{ExplainsGranule, ExplainsMerge, ExplainsPart, column_places}
+use Rattle.row_merge.specs.MergedParts.{ExplainsGranule, ExplainsMerge, ExplainsPart}
 use Rattle.row_merge.specs.Streams.{AreLater, ExplainsAmong, ExplainsStream, IsLater, IsReaderOf}
 
 -- ---- readers go on
@@ -142,6 +143,32 @@ module _ {F : Type 0} (files_of : F → Option Files) where
       reader_inside : (x y : Reading F) → Some x ≡ Some y → x ≡ y
       reader_inside x y e = cc
   reader_there schema (q ∷ ks) (x ∷ rs) (suc at) k r are kept is = reader_there schema ks rs at k r are.1 kept is
+
+  -- what is no damage says nothing of bytes
+  none_said : (E : ℕ → ColType → PartFault → Type 0) (types : List ColType) (places : List ℕ) (why : PartFault) → IsNoDamage why → ExplainsAt E types places why
+  none_said E types places Fault none = tt
+  none_said E types places NoMemory none = tt
+  none_said E types places (Damaged f place wanted found) none = absurd none
+
+  -- the first part is named, and what is said is a fault, or that an allocation failed
+  module _ (i : Inputs F) (readers : List (Reading F)) (are : AllZip (IsReaderOf i.schema.now) i.parts.now readers) (k : Kept (Part F)) (some : 0 < length i.parts.now) (is : k ≡ get_or i.parts.now 0 k) where
+    first_reader : (ks : List (Kept (Part F))) (rs : List (Reading F)) → AllZip (IsReaderOf i.schema.now) ks rs → 0 < length ks → (r : Reading F) × (slice_get rs 0 ≡ Some r)
+    first_reader [] rs all there = absurd (omega (arith, there))
+    first_reader (q ∷ ks) [] all there = absurd all
+    first_reader (q ∷ ks) (r ∷ rs) all there = (r, refl)
+
+    pub first_fails : (why : PartFault) → IsNoDamage why → ExplainsStream files_of i readers ((get_or i.parts.now 0 k).name, why)
+    first_fails why none =
+        let r = first_reader i.parts.now readers are some in
+        record {
+          at = 0;
+          kept = k;
+          reader = r.0;
+          kept_is = slice_get_read i.parts.now (length i.parts.now) 0 k refl some is;
+          reader_is = r.1;
+          name_is = ap (λ (q : Kept (Part F)). q.name) (sym is);
+          explained = none_said (λ number t. ExplainsAmong (column_in files_of r.0.part number) r.0.left t) (column_types r.0.schema) r.0.places why none;
+        }
 
   module _ (i : Inputs F) (e : PartName × PartFault) where
     -- what is said of readers is said of them as they were before

@@ -1,16 +1,21 @@
 pub mod Ahead
 pub mod Appending
 pub mod Checked
+pub mod ChosenGranules
+pub mod Copies
 pub mod Copying
 pub mod Courses
 pub mod Cursors
 pub mod Explaining
 pub mod Filling
 pub mod Folds
+pub mod GivenSinks
 pub mod Handing
 pub mod HistoryRows
 pub mod Keys
+pub mod Leading
 pub mod Lent
+pub mod Lone
 pub mod Merges
 pub mod Nexts
 pub mod Opening
@@ -28,6 +33,15 @@ pub mod Taking
 pub mod TestTables
 pub mod Totals
 pub mod Written
+pub use Rattle.part_history.proofs.MtModelCommands
+pub use Rattle.part_history.proofs.MtModelDetermined
+pub use Rattle.part_history.proofs.MtModelSameKeys
+pub use Rattle.part_history.proofs.MtModelSorting
+pub use Rattle.part_history.proofs.Counted as PartHistoryCounted
+pub use Rattle.part_history.proofs.Joined as PartHistoryJoined
+pub use Rattle.part_history.proofs.Orders as PartHistoryOrders
+pub use Rattle.part_history.proofs.OwnRows as PartHistoryOwnRows
+pub use Rattle.part_history.proofs.Portions as PartHistoryPortions
 pub use Rattle.part_reader.proofs.ChosenItems as PartReaderChosenItems
 pub use Rattle.part_reader.proofs.CutRows as PartReaderCutRows
 pub use Rattle.part_reader.proofs.Gaining as PartReaderGaining

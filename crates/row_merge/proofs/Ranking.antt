@@ -1,16 +1,16 @@
 -- Inputs in the order by their first rows.
-use Rattle.std.proofs.Common.{◌≡◌, ◌≢◌, ◌⊎◌, inl, inr, ℕ, zero, suc, ◌+◌, ◌<◌, ◌≤◌, false, true, List, [], ◌∷◌, ◌++◌, length, take, drop, set, get_or, drop-cons, refl, sym, ap, ap₂, ◌∙◌, subst, arith}
+use Rattle.std.proofs.Common.{◌≡◌, ◌≢◌, ◌⊎◌, inl, inr, ℕ, zero, suc, ◌+◌, ◌<◌, false, true, List, [], ◌∷◌, ◌++◌, length, take, drop, set, get_or, drop-cons, refl, sym, ap, ap₂, ◌∙◌, subst, arith}
 use Rattle.std.specs.Cmp.{IsTotalOrder, ranks}
 use Rattle.std.specs.List.{All, Contains, insert}
 use Rattle.std.specs.Ordering.{MatchOrdering, is_le, is_lt, nat_cmp, ordering_reverse, ordering_then}
 use Rattle.std.specs.declared.cmp.Ordering.{Ordering}
 use Rattle.std.specs.declared.cmp.Ordering.TheVariants.{Less, Equal, Greater}
 use Rattle.std.proofs.lemmas.Cmp.{nat_cmp_total, on_total, then_total}
-use Rattle.std.proofs.lemmas.List.{get_or-drop, get_or-set_other, get_or-set_same, get_or-take, length-take, take-append-drop, take_more}
+use Rattle.std.proofs.lemmas.List.{get_or-drop, get_or-set_other, get_or-take, length-take, take-append-drop, take_more}
 use Rattle.std.proofs.lemmas.List.Elements.{All-append, All-cons, All-contains, All-from_get_or, All-head, All-nil, All-same, All-tail, All-weaker, Contains-append_cases, Contains-append_left, Contains-append_right, Contains-push_cases}
 use Rattle.mt_values.specs.Order.{key_cmp}
 use Rattle.mt_values.specs.Values.{Row}
-use Rattle.row_merge.specs.Merging.{AreOthersRanked, AreRanked, Falls, TakesFirst, ahead_at, lead_at, lead_cmp}
+use Rattle.row_merge.specs.Merging.{AreOthersRanked, AreRanked, Falls, LeadsFirst, RowLeads, TakesFirst, ahead_at, lead_at, lead_cmp}
 use Rattle.row_merge.proofs.Keys.{key_total}
 use Rattle.row_merge.proofs.Sorted.{all_halves, equal_itself, less_is_at_most, less_then, up_to_is_at_most}
 
@@ -91,12 +91,12 @@ some_anyway (a ∷ ahead) (suc i) (suc x) rows some = by (some_anyway ahead i x 
     by (inr e) = inr (ap suc e)
 
 -- a list around one of its inputs, and with other rows there
-around : (ahead : List (List Row)) (i : ℕ) → i < length ahead → ahead ≡ take i ahead ++ ahead_at ahead i ∷ drop (suc i) ahead
+pub around : (ahead : List (List Row)) (i : ℕ) → i < length ahead → ahead ≡ take i ahead ++ ahead_at ahead i ∷ drop (suc i) ahead
 around [] i below = absurd (omega arith)
 around (a ∷ ahead) zero below = refl
 around (a ∷ ahead) (suc i) below = ap (λ zs. a ∷ zs) (around ahead i (omega arith))
 
-set_around : (ahead : List (List Row)) (i : ℕ) (rows : List Row) → i < length ahead → set ahead i rows ≡ take i ahead ++ rows ∷ drop (suc i) ahead
+pub set_around : (ahead : List (List Row)) (i : ℕ) (rows : List Row) → i < length ahead → set ahead i rows ≡ take i ahead ++ rows ∷ drop (suc i) ahead
 set_around [] i rows below = absurd (omega arith)
 set_around (a ∷ ahead) zero rows below = refl
 set_around (a ∷ ahead) (suc i) rows below = ap (λ zs. a ∷ zs) (set_around ahead i rows (omega arith))
@@ -299,6 +299,68 @@ module _ (places : List ℕ) (ahead : List (List Row)) where
       head_of : (j : ℕ) (x : Row) (xs : List Row) → ahead_at ahead j ≡ x ∷ xs → (j ≡ input → ⊥) → ordering_then (key_cmp places row x) (nat_cmp input j) ≡ Less
       head_of j x xs e other =
           ap₂ (λ a b. ordering_then (key_cmp places a b) (nat_cmp input j)) (sym lead) (sym (ap (λ zs. get_or zs 0 []) e))
+          ∙ later j other (omega (arith, ap length e))
+
+      of_earlier : (j : ℕ) → j < input → (found : List Row) → ahead_at ahead j ≡ found → Before found
+      of_earlier j low [] e = All-nil (λ other. key_cmp places row other ≡ Less)
+      of_earlier j low (x ∷ xs) e =
+          All-cons (λ other. key_cmp places row other ≡ Less) x [] (first_less (key_cmp places row x) input j (head_of j x xs e (λ same. omega (arith, low, same))) low)
+          (All-nil (λ other. key_cmp places row other ≡ Less))
+
+      of_later : (j : ℕ) → input < j → (found : List Row) → ahead_at ahead j ≡ found → NotBefore found
+      of_later j high [] e = All-nil (λ other. is_lt (key_cmp places other row) ≡ false)
+      of_later j high (x ∷ xs) e =
+          All-cons (λ other. is_lt (key_cmp places other row) ≡ false) x []
+          (up_to_is_at_most (key_cmp places) (key_total places) row x (first_le (key_cmp places row x) (nat_cmp input j) (head_of j x xs e (λ same. omega (arith, high, same)))))
+          (All-nil (λ other. is_lt (key_cmp places other row) ≡ false))
+
+      by_before : (j : ℕ) → j < length (take input ahead) → Before (get_or (take input ahead) j [])
+      by_before j low =
+          let short : j < input = omega (arith, low, length-take input ahead) in
+          subst Before (sym (get_or-take input ahead j [] short)) (of_earlier j short (ahead_at ahead j) refl)
+
+      by_after : (j : ℕ) → NotBefore (get_or (drop (suc input) ahead) j [])
+      by_after j = subst NotBefore (sym (get_or-drop (suc input) ahead j [])) (of_later (suc input + j) (omega arith) (ahead_at ahead (suc input + j)) refl)
+
+  -- ---- other rows of the input that has the next row
+
+  -- its first one comes before those of all others
+  pub first_leads : (others : List ℕ) (input : ℕ) → AreRanked places ahead (others ++ input ∷ []) → RowLeads places ahead input others (lead_at ahead input)
+  first_leads others input r = λ k d below. All-head (λ y. by_lead y (get_or others k d) ≡ Less) input [] (falls_between by_lead others (input ∷ []) r.falls k d below)
+
+  -- the last of the others comes before those that are ranked earlier
+  pub last_under : (others : List ℕ) (next : ℕ) → Falls by_lead (others ++ next ∷ []) → All (λ x. by_lead next x ≡ Less) others
+  last_under others next f = λ k d below. All-head (λ y. by_lead y (get_or others k d) ≡ Less) next [] (falls_between by_lead others (next ∷ []) f k d below)
+
+  pub others_fall : (others : List ℕ) (input : ℕ) → AreRanked places ahead (others ++ input ∷ []) → Falls by_lead others
+  others_fall others input r = falls_front by_lead others (input ∷ []) r.falls
+
+  -- a row that comes before the first rows of the ranked inputs comes before those of the earlier ones, and those of the later ones do not come before it
+  pub row_leads : (others : List ℕ) (input : ℕ) (row : Row) → AreOthersRanked places ahead input others → RowLeads places ahead input others row → LeadsFirst places (take input ahead) (drop (suc input) ahead) row
+  row_leads others input row r leads = record {
+    before = All-from_get_or Before (take input ahead) [] (λ j low. by_before j low);
+    after = All-from_get_or NotBefore (drop (suc input) ahead) [] (λ j low. by_after j);
+  }
+    where
+      Before : List Row → Type 0
+      Before xs = All (λ other. key_cmp places row other ≡ Less) (take 1 xs)
+
+      NotBefore : List Row → Type 0
+      NotBefore xs = All (λ other. is_lt (key_cmp places other row) ≡ false) (take 1 xs)
+
+      IsUnder : ℕ → Type 0
+      IsUnder x = ordering_then (key_cmp places row (lead_at ahead x)) (nat_cmp input x) ≡ Less
+
+      later : (j : ℕ) → (j ≡ input → ⊥) → 0 < length (ahead_at ahead j) → IsUnder j
+      later j other some = by (r.all j some)
+        where
+          by : Contains others j ⊎ (input ≡ j) → IsUnder j
+          by (inl c) = All-contains IsUnder others j leads c
+          by (inr e) = absurd (other (sym e))
+
+      head_of : (j : ℕ) (x : Row) (xs : List Row) → ahead_at ahead j ≡ x ∷ xs → (j ≡ input → ⊥) → ordering_then (key_cmp places row x) (nat_cmp input j) ≡ Less
+      head_of j x xs e other =
+          ap (λ a. ordering_then (key_cmp places row a) (nat_cmp input j)) (sym (ap (λ zs. get_or zs 0 []) e))
           ∙ later j other (omega (arith, ap length e))
 
       of_earlier : (j : ℕ) → j < input → (found : List Row) → ahead_at ahead j ≡ found → Before found

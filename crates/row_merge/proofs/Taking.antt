@@ -5,7 +5,7 @@ use Rattle.std.specs.List.{All}
 use Rattle.std.specs.List.Sorted.{IsSorted}
 use Rattle.std.specs.Ordering.{is_eq, is_lt, ordering_reverse}
 use Rattle.std.specs.declared.cmp.Ordering.{Ordering}
-use Rattle.std.specs.declared.cmp.Ordering.TheVariants.{Less, Equal, Greater}
+use Rattle.std.specs.declared.cmp.Ordering.TheVariants.{Less, Equal}
 use Rattle.std.proofs.lemmas.List.Elements.{All-append, All-cons, All-head, All-nil, All-same, All-tail, All-weaker, filter-append}
 use Rattle.mt_values.specs.Order.{key_cmp, key_of}
 use Rattle.mt_values.specs.Values.{Row}
@@ -25,7 +25,7 @@ module _ (places : List ℕ) where
   o = key_total places
 
   -- a row that comes before others is taken past them: those of each key stay as they were
-  taken_alike : (current before rows after : List Row) (row : Row) → All (λ x. cmp row x ≡ Less) before → (r : Row)
+  pub taken_alike : (current before rows after : List Row) (row : Row) → All (λ x. cmp row x ≡ Less) before → (r : Row)
       → alike places r (current ++ (before ++ row ∷ (rows ++ after))) ≡ alike places r ((current ++ row ∷ []) ++ (before ++ (rows ++ after)))
   taken_alike current before rows after row less r = sym (
       ap (filter p) (append_assoc current (row ∷ []) (before ++ (rows ++ after)))
@@ -42,7 +42,7 @@ module _ (places : List ℕ) where
       none e = filter_none p before (All-weaker (λ x. cmp row x ≡ Less) (λ x. p x ≡ false) (λ x is. ap is_eq (o.congr r row x (equal_is (cmp r row) e) ∙ is)) before less)
 
   -- all rows that are left, around the input of the next one
-  rows_around : (front : List (List Row)) (rows : List Row) (back : List (List Row)) → rows_of_all (front ++ rows ∷ back) ≡ rows_of_all front ++ (rows ++ rows_of_all back)
+  pub rows_around : (front : List (List Row)) (rows : List Row) (back : List (List Row)) → rows_of_all (front ++ rows ∷ back) ≡ rows_of_all front ++ (rows ++ rows_of_all back)
   rows_around front rows back = all_joined front (rows ∷ back)
 
   module _ (run : List Row → List Row → Type 0) (inputs : List (List Row)) where

@@ -149,6 +149,19 @@ module _ {A S F : Type 0} {arms : Ghosts A S F} where
     calm = λ none. left.calm (λ f. none (from f));
   }
 
+  -- what was filled has no faults
+  pub arm_only : {one two : A} {faults : Type 0} → LeavesBoth arms one two 0 0 faults → LeavesArm arms one two faults
+  arm_only {one = one} {two = two} left = record {
+    tells = left.tells;
+    later = left.later;
+    fault = λ f. by (left.fault f);
+    calm = λ none. (left.calm none).0;
+  }
+    where
+      by : Rose (arms.failed one) (arms.failed two) ⊎ Rose 0 0 → Rose (arms.failed one) (arms.failed two)
+      by (inl rose) = rose
+      by (inr rose) = absurd (omega (arith, rose))
+
   -- the part is given up: a fault of its stage becomes one of the arm
   pub given_up : {one two three : A} {first now : ℕ} {faults : Type 0} → first ≡ 0 → LeavesBoth arms one two first now faults → arms.tells three ≡ arms.tells two → (0 < now → Rose (arms.failed two) (arms.failed three))
       → (now ≡ 0 → arms.failed three ≡ arms.failed two) → arms.failed two ≤ arms.failed three → LeavesArm arms one three faults

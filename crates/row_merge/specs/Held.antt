@@ -17,6 +17,10 @@ read_more rows h = record h { read = sum_of h.read rows; most_read = max h.most_
 abbrev pub took : Held → Held
 took h = record h { read = h.read - 1 }
 
+-- this many were taken at once
+abbrev pub took_some : ℕ → Held → Held
+took_some rows h = record h { read = h.read - rows }
+
 abbrev pub gave : ℕ → Held → Held
 gave rows h = record h { made = sum_of h.made rows; most_made = max h.most_made (sum_of h.made rows); most_given = max h.most_given rows }
 

@@ -1,5 +1,5 @@
 -- Parts that are merged, and the part that is sealed of them (docs/engines.md, "Merges").
-use Rattle.std.specs.Prelude.{◌≡◌, ◌⊎◌, ℕ, ◌<◌, List, length, slice_get, Option, Some, ⊤}
+use Rattle.std.specs.Prelude.{◌≡◌, ◌⊎◌, ℕ, ◌<◌, Bool, List, [], ◌∷◌, length, slice_get, Option, Some, ⊤}
 use Rattle.std.specs.List.{AllZip, range_with_len}
 use Rattle.mt_base.specs.declared.name.FileId.TheVariants as file
 use Rattle.mt_base.specs.declared.partition.Partition.{Partition}
@@ -16,7 +16,7 @@ use Rattle.part_reader.specs.declared.reading.PartFault.{PartFault}
 use Rattle.part_reader.specs.declared.reading.PartFault.TheVariants.{Fault, NoMemory, Damaged}
 use Rattle.part_reader.specs.declared.reading.TheConstants.{NO_MARK}
 use Rattle.part_reader.specs.Faults.{ExplainsAt}
-use Rattle.part_reader.specs.Granules.{ExplainsRun, PartColumn, column_in, rows_in}
+use Rattle.part_reader.specs.Granules.{ExplainsChosen, ExplainsRun, PartColumn, chosen_of, column_in, rows_in}
 use Rattle.part_reader.specs.Parts.{FolderHolds, PartHolds}
 use Rattle.part_reader.specs.Readings.{lone}
 use Rattle.part_set.specs.declared.kept.Kept.{Kept}
@@ -83,3 +83,24 @@ pub record ExplainsMerge {F : Type 0} (files_of : F → Option Files) (schema : 
   pub kept_is : slice_get parts at ≡ Some kept
   pub name_is : e.0 ≡ kept.name
   pub explained : ExplainsPart files_of schema kept.part e.1
+
+-- ---- chosen granules
+
+-- the rows of each part's chosen granules
+abbrev pub chosen_inputs : ℕ → List (List Bool) → List (List Row) → List (List Row)
+chosen_inputs g (c ∷ chosen) (r ∷ rows) = chosen_of g c r ∷ chosen_inputs g chosen rows
+chosen_inputs g chosen rows = []
+
+-- what a fault says of a part of which all columns are read in the chosen granules (docs/formats.md, "Parts")
+abbrev pub ExplainsWhole : {F : Type 0} → (F → Option Files) → Schema → Part F → List Bool → PartFault → Type 0
+ExplainsWhole files_of schema part chosen fault = ExplainsAt (λ number t. ExplainsChosen (column_in files_of part number) chosen t) (column_types schema) (column_places schema) fault
+
+-- what it says of one of the parts, by its name
+pub record ExplainsWholes {F : Type 0} (files_of : F → Option Files) (schema : Schema) (parts : List (Kept (Part F))) (chosen : List (List Bool)) (e : PartName × PartFault) : Type 0 where
+  pub at : ℕ
+  pub kept : Kept (Part F)
+  pub own : List Bool
+  pub kept_is : slice_get parts at ≡ Some kept
+  pub own_is : slice_get chosen at ≡ Some own
+  pub name_is : e.0 ≡ kept.name
+  pub explained : ExplainsWhole files_of schema kept.part own e.1

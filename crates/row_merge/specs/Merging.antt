@@ -35,6 +35,20 @@ pub record IsTaken (places : List ℕ) (left : List (List Row)) (row : Row) (new
   pub before : All (λ other. key_cmp places row other ≡ Less) (rows_of_all front)
   pub after : All (λ other. is_lt (key_cmp places other row) ≡ false) (rows ++ rows_of_all back)
 
+-- a row comes before all rows of the earlier inputs, and none of the later inputs has one before it
+pub record Leads (places : List ℕ) (front back : List (List Row)) (row : Row) : Type 0 where
+  pub before : All (λ x. key_cmp places row x ≡ Less) (rows_of_all front)
+  pub after : All (λ x. is_lt (key_cmp places x row) ≡ false) (rows_of_all back)
+
+-- the first rows of one of the inputs are taken, each of which comes before those of the others in this way
+pub record AreTaken (places : List ℕ) (left : List (List Row)) (some : List Row) (new : List (List Row)) : Type 0 where
+  pub front : List (List Row)
+  pub rows : List Row
+  pub back : List (List Row)
+  pub left_is : left ≡ front ++ (some ++ rows) ∷ back
+  pub new_is : new ≡ front ++ rows ∷ back
+  pub lead : All (Leads places front back) some
+
 -- ---- rows in memory
 
 -- the rows of each input: those in memory, and then the rest
@@ -58,6 +72,21 @@ pub record TakesFirst (places : List ℕ) (ahead : List (List Row)) (input : ℕ
   pub before : All (λ others. All (λ other. key_cmp places row other ≡ Less) (take 1 others)) front
   pub after : All (λ others. All (λ other. is_lt (key_cmp places other row) ≡ false) (take 1 others)) back
 
+-- a row comes before the first row in memory of each earlier input, and those of the later ones do not come before it
+pub record LeadsFirst (places : List ℕ) (front back : List (List Row)) (row : Row) : Type 0 where
+  pub before : All (λ others. All (λ other. key_cmp places row other ≡ Less) (take 1 others)) front
+  pub after : All (λ others. All (λ other. is_lt (key_cmp places other row) ≡ false) (take 1 others)) back
+
+-- the first rows in memory of an input are taken, each of which comes before the first ones of the others in this way
+pub record TakesRows (places : List ℕ) (ahead : List (List Row)) (input : ℕ) (some : List Row) (new : List (List Row)) : Type 0 where
+  pub front : List (List Row)
+  pub rows : List Row
+  pub back : List (List Row)
+  pub input_is : input ≡ length front
+  pub ahead_is : ahead ≡ front ++ (some ++ rows) ∷ back
+  pub new_is : new ≡ front ++ rows ∷ back
+  pub lead : All (LeadsFirst places front back) some
+
 -- ---- the choice of the next row
 
 -- the rows in memory of an input, and the first of them
@@ -70,6 +99,10 @@ lead_at ahead input = slice_index_or (ahead_at ahead input) 0 []
 -- the order of two inputs by their first rows, and by their numbers where these are alike
 abbrev pub lead_cmp : List ℕ → List (List Row) → ℕ → ℕ → Ordering
 lead_cmp places ahead a b = ordering_then (key_cmp places (lead_at ahead a) (lead_at ahead b)) (nat_cmp a b)
+
+-- a row that an input may have first comes before the first rows of others
+abbrev pub RowLeads : List ℕ → List (List Row) → ℕ → List ℕ → Row → Type 0
+RowLeads places ahead input others row = All (λ x. ordering_then (key_cmp places row (lead_at ahead x)) (nat_cmp input x) ≡ Less) others
 
 -- each number comes before those earlier in the list
 abbrev pub Falls : (ℕ → ℕ → Ordering) → List ℕ → Type 0

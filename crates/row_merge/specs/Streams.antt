@@ -47,6 +47,11 @@ pub record IsPlanOf {F : Type 0} (schema : Schema) (parts : List (Kept (Part F))
 abbrev pub reader_of : {F : Type 0} → Schema → Plan → Kept (Part F) → Reading F
 reader_of schema plan k = record { schema = schema; part = k.part; places = plan.columns.items; left = plan.chosen.items }
 
+-- readers of these columns of the chosen granules of each part, of which nothing was read yet
+abbrev pub chosen_readers : {F : Type 0} → Schema → List ℕ → List (Kept (Part F)) → List (List Bool) → List (Reading F)
+chosen_readers schema columns (k ∷ parts) (own ∷ chosen) = record { schema = schema; part = k.part; places = columns; left = own } ∷ chosen_readers schema columns parts chosen
+chosen_readers schema columns parts chosen = []
+
 -- no row of a part is in memory
 abbrev pub no_cursor : List ColType → Cursor
 no_cursor types = record { block = record { types = types; rows = [] }; at = 0 }
@@ -187,6 +192,15 @@ pub record IsMerging {F S : Type 0} (run : List Row → List Row → Type 0) (ho
   pub left : List (List Row)
   pub has : HasRows out done
   pub over : HandsOver i.places.now run holds takes (column_types i.schema.now) rows done left current
+  pub left_is : IsLeft s rows left
+  pub own : All (IsTableRow i.schema.now) (rows_of_all left)
+
+-- The same of rows that were left, where a sink got what is left of their keys.
+pub record IsFolding {F S T : Type 0} (gets : T → List Row → T → Type 0) (run : List Row → List Row → Type 0) (holds : S → List Row → Type 0) (takes : Row → Type 0) (i : Inputs F) (inputs rows : List (List Row)) (s : Stream F) (current : Option (Current S)) (first out : T) : Type 0 where
+  pub done : List Row
+  pub left : List (List Row)
+  pub got : gets first done out
+  pub over : HandsOver i.places.now run holds takes (column_types i.schema.now) inputs done left current
   pub left_is : IsLeft s rows left
   pub own : All (IsTableRow i.schema.now) (rows_of_all left)
 

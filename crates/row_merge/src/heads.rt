@@ -106,7 +106,7 @@ fn take_first(alloc: Global, cursor: &mut Cursor) -> Result<Row, NoMemory>
 /// Puts an input that has rows among the others where it belongs; one without rows is left out.
 ///
 /// `NoMemory` where an allocation failed.
-fn rank(
+pub(crate) fn rank(
     places: &[u32],
     cursors: &[Cursor],
     ranked: &mut Vec<usize>,
@@ -169,7 +169,13 @@ fn cmp_leads(places: &[u32], cursors: &[Cursor], a: usize, b: usize) -> Ordering
 }
 
 /// The order of two rows of blocks by the columns at these places.
-fn cmp_rows_of(places: &[u32], left: &Block, a: usize, right: &Block, b: usize) -> Ordering
+pub(crate) fn cmp_rows_of(
+    places: &[u32],
+    left: &Block,
+    a: usize,
+    right: &Block,
+    b: usize,
+) -> Ordering
     requires first { a < length left.now.rows }
     requires second { b < length right.now.rows }
     requires own { All (λ place. place < length left.now.types) places.now }

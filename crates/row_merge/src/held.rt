@@ -1,8 +1,8 @@
 // How many rows a merge has in memory, beside those in the state of its rule.
 ghost use Rattle.std.specs.Prelude.{◌≡◌};
-ghost use Rattle.row_merge.specs.Held.{appended, gave, no_rows, read_more, took};
+ghost use Rattle.row_merge.specs.Held.{appended, gave, no_rows, read_more, took, took_some};
 
-/// Counts of rows in memory: those that were read and not yet handed to the rule, and those that it gave and that are not yet appended.
+/// Counts of rows in memory: those that were read and not yet handed to the rule or copied, and those that it gave and that are not yet appended.
 #[derive(Debug, Clone, Copy, PartialEq, Eq)]
 pub struct Held {
     pub read: u64,
@@ -41,6 +41,13 @@ impl Held {
         ensures { self.new ≡ took self.old }
     {
         self.read = self.read.saturating_sub(1);
+    }
+
+    /// This many rows were copied, without the rule.
+    pub(crate) fn took_some(&mut self, rows: u64)
+        ensures { self.new ≡ took_some rows self.old }
+    {
+        self.read = self.read.saturating_sub(rows);
     }
 
     /// The rule gave this many rows at once.

@@ -3,16 +3,21 @@
 #![tactic(auto)]
 
 mod choosing;
+mod chosen;
+mod copied;
 mod course;
 mod folding;
 mod heads;
 mod held;
 mod merging;
 mod order;
+mod sink;
 mod streamed;
 mod streams;
+mod stretches;
 
 pub use choosing::merge_rows;
+pub use chosen::merge_chosen;
 pub use collapse_rules;
 pub use held::Held;
 pub use merging::merge_sorted;
@@ -23,6 +28,7 @@ pub use rule_aggregating;
 pub use rule_replacing;
 pub use rule_replacing::rule_law;
 pub use rule_summing;
+pub use sink::RowSink;
 pub use streamed::{merge_parts, merge_streamed};
 
 #[cfg(test)]

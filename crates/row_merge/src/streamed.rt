@@ -22,6 +22,7 @@ ghost use Rattle.row_merge.specs.Merging.{IsTaken};
 ghost use Rattle.row_merge.specs.Streams.{AreInputs, AreShaped, Ends, HandsOver, HasMerged, HasMergedTable, HasPending, IsLeft, IsPending, IsStream, KeepsHeld, LeavesBoth, rests_of};
 
 use crate::choosing::functions_of;
+use crate::copied::copy_stream;
 use crate::course::{Current, end_key, take_in};
 use crate::held::Held;
 use crate::streams::{Inputs, Stream, check_shapes, fill_all, next_row, open_whole, plan_of};
@@ -34,8 +35,8 @@ use part_reader::part_writer::{PartOut, SealedPart, finish_part};
 use part_reader::{Part, PartFault};
 use part_set::Kept;
 use rule_aggregating::AggregatingRule;
+use rule_replacing::ReplacingRule;
 use rule_replacing::rule_law::RowRule;
-use rule_replacing::{PlainRule, ReplacingRule};
 use rule_summing::SummingRule;
 use std::alloc::Global;
 
@@ -270,7 +271,7 @@ fn merge_by_engine<R: Arm>(
         (IsErrAnd result (λ e. e.1 ≡ PartFault.Fault)) }
 {
     match &inputs.schema.engine {
-        Engine::Plain => merge_stream(alloc, arm, inputs, stream, &PlainRule, out),
+        Engine::Plain => copy_stream(alloc, arm, inputs, stream, out),
         Engine::Replacing(version) => {
             let rule = ReplacingRule { version: *version };
             merge_stream(alloc, arm, inputs, stream, &rule, out)
@@ -304,7 +305,11 @@ fn merge_by_engine<R: Arm>(
 /// The rule of a table of SummingMergeTree that sums these columns.
 ///
 /// `NoMemory` where an allocation failed.
-fn summing_rule(alloc: Global, schema: &Schema, places: &Seq<u32>) -> Result<SummingRule, NoMemory>
+pub(crate) fn summing_rule(
+    alloc: Global,
+    schema: &Schema,
+    places: &Seq<u32>,
+) -> Result<SummingRule, NoMemory>
     ensures types { IfOk result (λ rule. rule.types ≡ column_types schema.now) }
     ensures places { IfOk result (λ rule. rule.places ≡ places.now) }
 {
@@ -317,7 +322,7 @@ fn summing_rule(alloc: Global, schema: &Schema, places: &Seq<u32>) -> Result<Sum
 /// The rule of a table of AggregatingMergeTree.
 ///
 /// `NoMemory` where an allocation failed.
-fn aggregating_rule(alloc: Global, schema: &Schema) -> Result<AggregatingRule, NoMemory>
+pub(crate) fn aggregating_rule(alloc: Global, schema: &Schema) -> Result<AggregatingRule, NoMemory>
     ensures types { IfOk result (λ rule. rule.types ≡ column_types schema.now) }
     ensures functions { IfOk result (λ rule. rule.functions ≡ functions_of schema.now) }
 {
@@ -392,7 +397,7 @@ fn merge_stream<R: Arm, Q: RowRule>(
 /// not lost.
 ///
 /// `NoMemory` where an allocation failed.
-fn hand_over<F, Q: RowRule>(
+pub(crate) fn hand_over<F, Q: RowRule>(
     alloc: Global,
     inputs: &Inputs<F>,
     rule: &Q,

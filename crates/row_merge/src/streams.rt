@@ -154,7 +154,7 @@ pub(crate) fn plan_of<F>(
 }
 
 /// How many bytes are read ahead at most of each of this many columns of each of this many parts.
-fn share_of(parts: usize, columns: usize) -> u64
+pub(crate) fn share_of(parts: usize, columns: usize) -> u64
     ensures { result ≤ 2 ^ 24 }
 {
     let shares = (parts as u64).saturating_mul(columns as u64);
@@ -247,7 +247,7 @@ pub(crate) fn open_whole<'a, F: Dir>(
 /// Reads the next granule of a part of which no row is in memory, and ranks the part; one without more rows is left out.
 ///
 /// The name of the part, and why it could not be read, as `merge_streamed` says. After an error the stream can only be given up.
-fn refill<R: Arm>(
+pub(crate) fn refill<R: Arm>(
     alloc: Global,
     arm: &mut R,
     inputs: &Inputs<R::Dir>,

@@ -1,4 +1,4 @@
-use Rattle.std.proofs.Common.{◌≡◌, ◌<◌, ◌-◌, ◌/◌, ◌∙◌, ap, arith, length, sym}
+use Rattle.std.proofs.Common.{◌<◌, ◌-◌, ◌/◌, ◌∙◌, ap, arith, length, sym}
 use Rattle.std.specs.Ordering.{is_lt}
 use Rattle.row_merge.specs.Heads.{ahead_of}
 use Rattle.row_merge.proofs.Ranking.{lower_half, upper_half}

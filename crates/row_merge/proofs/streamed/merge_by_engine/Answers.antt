@@ -14,18 +14,18 @@ pub returns-in-Plain-clause-merged : goal.returns-in-Plain-clause-merged
 returns-in-Plain-clause-merged g c = λ partition rows holds left parts.
     let i = c.args.inputs.now in
     let schema = i.schema.now in
-    on_ok_weaker c.merge_stream.result
-    (λ m. merged_table schema partition c.requires.schema i.places.now (Run engine.Plain []) rows c.merge_stream.new.out c.requires.stream.inputs.places_are (run_of schema (engine.Plain) c.in-Plain.is (λ other. cc)) parts m)
-    (c.merge_stream.ensures.merged partition rows tt holds left parts)
+    on_ok_weaker c.copy_stream.result
+    (λ m. merged_table schema partition c.requires.schema i.places.now (Run engine.Plain []) rows c.copy_stream.new.out c.requires.stream.inputs.places_are (run_of schema (engine.Plain) c.in-Plain.is (λ other. cc)) parts m)
+    (c.copy_stream.ensures.merged partition rows holds left parts)
 
 pub returns-in-Replacing-clause-merged : goal.returns-in-Replacing-clause-merged
 returns-in-Replacing-clause-merged g c = λ partition rows holds left parts.
     let i = c.args.inputs.now in
     let schema = i.schema.now in
     let version = c.in-Replacing.version in
-    on_ok_weaker c.merge_stream-in-Replacing.result
-    (λ m. merged_table schema partition c.requires.schema i.places.now (Run (engine.Replacing version) []) rows c.merge_stream-in-Replacing.new.out c.requires.stream.inputs.places_are (run_of schema (engine.Replacing version) c.in-Replacing.is (λ other. cc)) parts m)
-    (c.merge_stream-in-Replacing.ensures.merged partition rows tt holds left parts)
+    on_ok_weaker c.merge_stream.result
+    (λ m. merged_table schema partition c.requires.schema i.places.now (Run (engine.Replacing version) []) rows c.merge_stream.new.out c.requires.stream.inputs.places_are (run_of schema (engine.Replacing version) c.in-Replacing.is (λ other. cc)) parts m)
+    (c.merge_stream.ensures.merged partition rows tt holds left parts)
 
 pub merge_stream-requires-in-Collapsing-clause-takes : goal.merge_stream-requires-in-Collapsing-clause-takes
 merge_stream-requires-in-Collapsing-clause-takes g c = λ κs within row typed signed. sign_is c.args.inputs.now.schema.now c.in-Collapsing.sign (ap sign_place c.in-Collapsing.is) row signed
