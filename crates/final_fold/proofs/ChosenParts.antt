@@ -12,7 +12,7 @@ use Rattle.mt_values.specs.declared.schema.Schema.{Schema}
 use Rattle.mt_values.specs.Tables.{partition_of, sorting_cmp}
 use Rattle.mt_values.specs.Values.{Row}
 use Rattle.row_merge.specs.column_file.Marks.{granules}
-use Rattle.table_core.proofs.MtModelDetermined.{sorting_total}
+use Rattle.row_merge.proofs.MtModelDetermined.{sorting_total}
 use Rattle.row_merge.specs.part_reader.Granules.{chosen_of}
 use Rattle.row_merge.proofs.PartReaderCutRows.{chosen_every}
 use Rattle.row_merge.specs.rule_law.TableRows.{IsTableRow}

@@ -8,10 +8,10 @@ use Rattle.mt_values.specs.declared.schema.Schema.{Schema}
 use Rattle.mt_values.specs.declared.value.ColType.{ColType}
 use Rattle.mt_values.specs.Schemas.{column_types}
 use Rattle.mt_values.specs.Values.{Row, types_of}
-use Rattle.table_core.specs.mt_model.Folding.{ComesFrom, Leaves, Merges}
-use Rattle.table_core.specs.mt_model.Live.{of_key}
-use Rattle.table_core.specs.mt_model.Partial.{MergesAll, Partly, TableRun, functions_of}
-use Rattle.table_core.specs.mt_model.Rules.{Folds, Run}
+use Rattle.row_merge.specs.mt_model.Folding.{ComesFrom, Leaves, Merges}
+use Rattle.row_merge.specs.mt_model.Live.{of_key}
+use Rattle.row_merge.specs.mt_model.Partial.{MergesAll, Partly, TableRun, functions_of}
+use Rattle.row_merge.specs.mt_model.Rules.{Folds, Run}
 use Rattle.row_merge.specs.rule_law.TableRows.{IsRowOf, IsTableRow}
 use Rattle.row_merge.proofs.RuleLawAggregated.{TakesRow, aggregating_law}
 use Rattle.row_merge.proofs.RuleLawAllRows.{plain_law}
@@ -20,7 +20,7 @@ use Rattle.row_merge.proofs.RuleLawOneRow.{replacing_law}
 use Rattle.row_merge.proofs.RuleLawOneSign.{versioned_law}
 use Rattle.row_merge.proofs.RuleLawOneSum.{summing_law}
 use Rattle.row_merge.proofs.RuleLawTableRows.{even_columns}
-use Rattle.table_core.specs.mt_model.Final.{FoldsAll, TableFolds}
+use Rattle.row_merge.specs.mt_model.Final.{FoldsAll, TableFolds}
 use Rattle.final_fold.specs.Keys.{is_of_key}
 use Rattle.final_fold.proofs.KeyTests.{none_left}
 

@@ -27,18 +27,18 @@ use Rattle.mt_values.specs.Tables.{partition_of, same_partition, sorting_cmp}
 use Rattle.mt_values.specs.Tests.{eval}
 use Rattle.mt_values.specs.Values.{Row}
 use Rattle.mt_values.proofs.Orders.{value_exact, value_total}
-use Rattle.table_core.specs.mt_model.declared.query.Query.{Query}
-use Rattle.table_core.specs.mt_model.Answer.{Answer, Prints}
-use Rattle.table_core.specs.mt_model.Final.{FoldOnce, FoldsAll, KeysFoldOnce, Sees}
-use Rattle.table_core.specs.mt_model.Folding.{Leaves}
-use Rattle.table_core.specs.mt_model.History.{History}
-use Rattle.table_core.specs.mt_model.Live.{live, of_key}
-use Rattle.table_core.specs.mt_model.Partial.{functions_of}
-use Rattle.table_core.specs.mt_model.Rules.{AreAggregatesFrom, Folds, FoldsAs, IsAggregateOf, IsSublist, LeavesOneSign, LeavesSums, Run, are_zero, function_or_first, is_cancel, is_settled, is_state, total, with_sums, wrapped_as}
-use Rattle.table_core.proofs.MtModelCommands.{same_itself}
-use Rattle.table_core.proofs.MtModelDetermined.{filter_moved, prints_once, row_exact, row_total, sorting_total}
-use Rattle.table_core.proofs.MtModelSameKeys.{filter_after, permutes}
-use Rattle.table_core.proofs.MtModelSorting.{equal_is}
+use Rattle.row_merge.specs.mt_model.declared.query.Query.{Query}
+use Rattle.row_merge.specs.mt_model.Answer.{Answer, Prints}
+use Rattle.row_merge.specs.mt_model.Final.{FoldOnce, FoldsAll, KeysFoldOnce, Sees}
+use Rattle.row_merge.specs.mt_model.Folding.{Leaves}
+use Rattle.row_merge.specs.mt_model.History.{History}
+use Rattle.row_merge.specs.mt_model.Live.{live, of_key}
+use Rattle.row_merge.specs.mt_model.Partial.{functions_of}
+use Rattle.row_merge.specs.mt_model.Rules.{AreAggregatesFrom, Folds, FoldsAs, IsAggregateOf, IsSublist, LeavesOneSign, LeavesSums, Run, are_zero, function_or_first, is_cancel, is_settled, is_state, total, with_sums, wrapped_as}
+use Rattle.row_merge.proofs.MtModelCommands.{same_itself}
+use Rattle.row_merge.proofs.MtModelDetermined.{filter_moved, prints_once, row_exact, row_total, sorting_total}
+use Rattle.row_merge.proofs.MtModelSameKeys.{filter_after, permutes}
+use Rattle.row_merge.proofs.MtModelSorting.{equal_is}
 use Rattle.row_merge.proofs.RuleLawAlternating.{other_sign}
 use Rattle.row_merge.proofs.RuleLawNewest.{last_is, newest_is}
 use Rattle.row_merge.proofs.RuleLawRanges.{among}

@@ -13,8 +13,8 @@ use Rattle.mt_values.specs.Schemas.{column_types}
 use Rattle.mt_values.specs.Tables.{partition_of, same_partition, sorting_columns}
 use Rattle.mt_values.specs.Tests.{eval}
 use Rattle.mt_values.specs.Values.{Row, types_of}
-use Rattle.table_core.specs.mt_model.History.{IsTableSchema}
-use Rattle.table_core.specs.mt_model.Partial.{MergesAll}
+use Rattle.row_merge.specs.mt_model.History.{IsTableSchema}
+use Rattle.row_merge.specs.mt_model.Partial.{MergesAll}
 use Rattle.row_merge.specs.rule_law.TableRows.{IsTableRow}
 use Rattle.row_merge.proofs.RuleLawTableRows.{run_table}
 use Rattle.row_merge.specs.Merged.{ArePartRows, IsMergedOf}

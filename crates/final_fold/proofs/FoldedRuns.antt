@@ -13,37 +13,40 @@ use Rattle.mt_values.specs.Tables.{partition_of, same_partition}
 use Rattle.mt_values.specs.Tests.{eval}
 use Rattle.mt_values.specs.Values.{Row}
 use Rattle.mt_outside.specs.Files.{Files}
-use Rattle.table_core.specs.mt_model.History.{IsTableSchema}
-use Rattle.table_core.specs.mt_model.Partial.{MergesAll}
-use Rattle.table_core.proofs.MtModelCommands.{same_itself}
-use Rattle.table_core.specs.part_name.declared.part.PartName.{PartName}
+use Rattle.row_merge.specs.mt_model.History.{IsTableSchema}
+use Rattle.row_merge.specs.mt_model.Partial.{MergesAll}
+use Rattle.row_merge.proofs.MtModelCommands.{same_itself}
+use Rattle.row_merge.specs.part_set.part_name.declared.part.PartName.{PartName}
 use Rattle.row_merge.specs.part_reader.declared.reading.Part.{Part}
 use Rattle.row_merge.specs.part_reader.declared.reading.PartFault.{PartFault}
 use Rattle.row_merge.specs.part_reader.Parts.{with_columns}
 use Rattle.row_merge.specs.part_set.declared.kept.Kept.{Kept}
-use Rattle.row_merge.specs.Merged.{ArePartRows, IsMergedOf}
+use Rattle.row_merge.specs.Merged.{ArePartRows}
+use Rattle.row_merge.specs.Sinks.{GetsMerged}
 use Rattle.final_fold.specs.declared.asking.Wanted.{Wanted}
-use Rattle.final_fold.specs.Folded.{AddsFold, AddsMerge, AreOfPartitions, ExplainsFold, IsFolded, SkipNoFold, StandByPartition, chosen_inputs, count_in}
+use Rattle.final_fold.specs.declared.found.Found.{Found}
+use Rattle.final_fold.specs.Folded.{AreOfPartitions, ExplainsFold, IsFolded, SkipNoFold, StandByPartition, chosen_inputs, count_in}
+use Rattle.final_fold.specs.Founds.{AddsFold, GetsMatches, IsFound}
 use Rattle.final_fold.specs.Scans.{joined_rows, values_at}
-use Rattle.final_fold.proofs.ChosenParts.{chosen_parts}
 use Rattle.final_fold.proofs.FoldedParts.{parts_fold}
+use Rattle.final_fold.proofs.FoundRows.{got_since}
 use Rattle.final_fold.proofs.KeyTests.{no_clash}
 use Rattle.final_fold.proofs.PartitionRuns.{IsNew, front_elsewhere, group_parted, group_parts, new_after, parted_joined, zip_drop}
 use Rattle.final_fold.proofs.Scanning.{values_more}
 
--- what was added of a merge of the rows of chosen granules is what is added of one of all rows
-pub fold_added : (w : Wanted) → 0 < w.schema.now.granularity → IsTableSchema w.schema.now → (partition : Partition) (chosen : List (List Bool)) (rows inputs : List (List Row)) (olds news : List Cells) (count : ℕ)
-    → All (ArePartRows w.schema.now partition) rows → SkipNoFold w chosen rows → inputs ≡ chosen_inputs w.schema.now.granularity chosen rows
-    → (All (ArePartRows w.schema.now partition) inputs → AddsMerge w partition inputs olds news count) → AddsFold w (joined_rows rows) olds news count
-fold_added w large table partition chosen rows inputs olds news count parts skips are adds =
-    let g = w.schema.now.granularity in
-    let read = adds (subst (All (ArePartRows w.schema.now partition)) (sym are) (chosen_parts w.schema.now partition g chosen rows parts)) in
-    let whole = parts_fold w large table partition chosen rows read.out parts skips (subst (λ is. IsMergedOf w.schema.now partition is read.out) are read.merged) in
+-- what was found of a merge of the rows of chosen granules is what is found of one of all rows
+pub fold_added : (old new : Found) → IsFound old → 0 < old.wanted.schema.now.granularity → IsTableSchema old.wanted.schema.now → (partition : Partition) (chosen : List (List Bool)) (rows : List (List Row))
+    → All (ArePartRows old.wanted.schema.now partition) rows → SkipNoFold old.wanted chosen rows
+    → GetsMerged GetsMatches old.wanted.schema.now partition (chosen_inputs old.wanted.schema.now.granularity chosen rows) old new → AddsFold old.wanted (joined_rows rows) old new
+fold_added old new is large table partition chosen rows parts skips m =
+    let w = old.wanted in
+    let since = got_since old new m.rows is m.got in
+    let whole = parts_fold w large table partition chosen rows m.rows parts skips m.merged in
     record {
       out = whole.0;
       merges = whole.1;
-      values = read.values ∙ ap (λ ms. with_columns ms w.places.now olds) (sym whole.2);
-      counted = read.counted ∙ ap length (sym whole.2);
+      values = since.values ∙ ap (λ (ms : List Row). with_columns ms w.places.now old.columns.items) (sym whole.2);
+      counted = since.counted ∙ ap (λ (ms : List Row). old.count + length ms) (sym whole.2);
     }
 
 -- ---- one partition more
@@ -68,10 +71,10 @@ joined_append : (front back : List (List Row)) → joined_rows (front ++ back) �
 joined_append [] back = refl
 joined_append (r ∷ front) back = ap (λ rs. r ++ rs) (joined_append front back) ∙ sym (append_assoc r (joined_rows front) (joined_rows back))
 
-pub fold_next : (w : Wanted) (p : Partition) (rows : List (List Row)) (at n : ℕ) (columns new : List Cells) (count added : ℕ) → IsFolded w (joined_rows (take at rows)) columns count → AddsFold w (joined_rows (take n (drop at rows))) columns new added
+pub fold_next : (w : Wanted) (p : Partition) (rows : List (List Row)) (at n : ℕ) (old new : Found) → IsFolded w (joined_rows (take at rows)) old.columns.items old.count → AddsFold w (joined_rows (take n (drop at rows))) old new
     → All (λ r. same_partition (partition_of w.schema.now r) p ≡ false) (joined_rows (take at rows)) → All (λ r. partition_of w.schema.now r ≡ p) (joined_rows (take n (drop at rows)))
-    → IsFolded w (joined_rows (take (at + n) rows)) new (count + added)
-fold_next w p rows at n columns new count added before this elsewhere own =
+    → IsFolded w (joined_rows (take (at + n) rows)) new.columns.items new.count
+fold_next w p rows at n old new before this elsewhere own =
     let met = eval w.condition.now in
     let front = joined_rows (take at rows) in
     let group = joined_rows (take n (drop at rows)) in
@@ -80,8 +83,8 @@ fold_next w p rows at n columns new count added before this elsewhere own =
       out = before.out ++ this.out;
       merges = subst (λ rs. MergesAll w.schema.now rs (before.out ++ this.out)) (sym (ap joined_rows (take_split at n rows) ∙ joined_append (take at rows) (take n (drop at rows))))
           (parted_joined w.schema.now p front group before.out this.out elsewhere own before.merges this.merges);
-      values = ap (map (λ (c : Cells). c.values)) this.values ∙ values_more (filter met before.out) (filter met this.out) w.places.now columns before.values ∙ ap (λ rs. values_at rs w.places.now) all;
-      counted = ap₂ (λ a b. a + b) before.counted this.counted ∙ sym (length-append (filter met before.out) (filter met this.out)) ∙ ap length all;
+      values = ap (map (λ (c : Cells). c.values)) this.values ∙ values_more (filter met before.out) (filter met this.out) w.places.now old.columns.items before.values ∙ ap (λ rs. values_at rs w.places.now) all;
+      counted = this.counted ∙ ap (λ k. k + length (filter met this.out)) before.counted ∙ sym (length-append (filter met before.out) (filter met this.out)) ∙ ap length all;
     }
 
 -- before the first there is none
@@ -156,11 +159,11 @@ module _ {F : Type 0} (parts : List (Kept (Part F))) (at : ℕ) (first : Kept (P
         (λ i d before inside. ap (λ (k : Kept (Part F)). same_partition (get_or parts i d).name.partition k.name.partition) (sym (first_at d)) ∙ new i d before below)
 
     -- one partition more was added
-    pub run_added : (columns new : List Cells) (count added : ℕ) → IsNew parts at → IsFolded w (joined_rows (take at rows)) columns count
-        → AddsFold w (joined_rows (take (count_in first.name.partition (drop at parts)) (drop at rows))) columns new added
-        → IsFolded w (joined_rows (take (at + count_in first.name.partition (drop at parts)) rows)) new (count + added)
-    run_added columns new count added is_new before this =
-        fold_next w first.name.partition rows at (count_in first.name.partition (drop at parts)) columns new count added before this (run_elsewhere is_new)
+    pub run_added : (old new : Found) → IsNew parts at → IsFolded w (joined_rows (take at rows)) old.columns.items old.count
+        → AddsFold w (joined_rows (take (count_in first.name.partition (drop at parts)) (drop at rows))) old new
+        → IsFolded w (joined_rows (take (at + count_in first.name.partition (drop at parts)) rows)) new.columns.items new.count
+    run_added old new is_new before this =
+        fold_next w first.name.partition rows at (count_in first.name.partition (drop at parts)) old new before this (run_elsewhere is_new)
         (group_parted w.schema.now first.name.partition (take (count_in first.name.partition (drop at parts)) (drop at rows)) run_parts)
 
 -- what is said of a run of the parts is said of all of them

@@ -18,11 +18,11 @@ use Rattle.mt_values.specs.Engines.{is_sign}
 use Rattle.mt_values.specs.Grid.{column_of}
 use Rattle.mt_values.specs.Schemas.{column_types}
 use Rattle.mt_values.specs.Values.{Row, type_of, types_of}
-use Rattle.table_core.specs.mt_model.Final.{FoldsAll}
-use Rattle.table_core.specs.mt_model.Folding.{Leaves, LeavesLater}
-use Rattle.table_core.specs.mt_model.Live.{of_key}
-use Rattle.table_core.specs.mt_model.Partial.{functions_of}
-use Rattle.table_core.specs.mt_model.Rules.{Folds, FoldsAs, LeavesOneSign, LeavesSums, Run, alternate, are_zero, collapsed, ends_with_state, first_of, is_cancel, is_one_of, is_state, last_of, summed, total, with_sums, wrapped_as}
+use Rattle.row_merge.specs.mt_model.Final.{FoldsAll}
+use Rattle.row_merge.specs.mt_model.Folding.{Leaves, LeavesLater}
+use Rattle.row_merge.specs.mt_model.Live.{of_key}
+use Rattle.row_merge.specs.mt_model.Partial.{functions_of}
+use Rattle.row_merge.specs.mt_model.Rules.{Folds, FoldsAs, LeavesOneSign, LeavesSums, Run, alternate, are_zero, collapsed, ends_with_state, first_of, is_cancel, is_one_of, is_state, last_of, summed, total, with_sums, wrapped_as}
 use Rattle.row_merge.specs.rule_law.TableRows.{IsTableRow}
 use Rattle.row_merge.proofs.RuleLawAlternating.{alternating_left}
 use Rattle.row_merge.proofs.RuleLawKept.{collapsing_keeps, versioned_keeps}

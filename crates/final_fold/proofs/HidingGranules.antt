@@ -14,7 +14,7 @@ use Rattle.mt_values.specs.Schemas.{column_types}
 use Rattle.mt_values.specs.Tables.{partition_of, sorting_cmp, sorting_columns}
 use Rattle.mt_values.specs.Tests.{eval}
 use Rattle.mt_values.specs.Values.{Row, types_of}
-use Rattle.table_core.proofs.MtModelDetermined.{sorting_total}
+use Rattle.row_merge.proofs.MtModelDetermined.{sorting_total}
 use Rattle.final_fold.specs.declared.asking.Wanted.{Wanted}
 use Rattle.final_fold.specs.Keys.{is_of_key}
 use Rattle.final_fold.specs.Folded.{HidesNoMatch, skipped_of}

@@ -9,11 +9,11 @@ use Rattle.mt_base.specs.declared.partition.Partition.{Partition}
 use Rattle.mt_values.specs.declared.schema.Schema.{Schema}
 use Rattle.mt_values.specs.Tables.{partition_of, sorting_cmp}
 use Rattle.mt_values.specs.Values.{Row}
-use Rattle.table_core.specs.mt_model.Folding.{Leaves}
-use Rattle.table_core.specs.mt_model.Live.{of_key}
-use Rattle.table_core.specs.mt_model.Partial.{MergesAll, TableRun}
-use Rattle.table_core.proofs.MtModelCommands.{same_itself}
-use Rattle.table_core.proofs.MtModelDetermined.{sorting_total}
+use Rattle.row_merge.specs.mt_model.Folding.{Leaves}
+use Rattle.row_merge.specs.mt_model.Live.{of_key}
+use Rattle.row_merge.specs.mt_model.Partial.{MergesAll, TableRun}
+use Rattle.row_merge.proofs.MtModelCommands.{same_itself}
+use Rattle.row_merge.proofs.MtModelDetermined.{sorting_total}
 use Rattle.row_merge.proofs.RuleLawPartlyRows.{holds_at}
 use Rattle.final_fold.specs.Keys.{SaysOfKeys, is_of_key}
 

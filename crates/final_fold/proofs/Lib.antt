@@ -1,11 +1,11 @@
 pub mod Added
 pub mod ChosenParts
-pub mod CoreRows
 pub mod Explained
 pub mod FoldedAll
 pub mod FoldedOnce
 pub mod FoldedParts
 pub mod FoldedRuns
+pub mod FoundRows
 pub mod FreeChoices
 pub mod Gains
 pub mod HidingGranules
@@ -21,12 +21,11 @@ pub mod Scanning
 pub mod SomeRun
 pub mod Sound
 pub mod Sure
-pub mod WholeColumns
-pub use Rattle.table_core.proofs.PartHistoryCounted
-pub use Rattle.table_core.proofs.PartHistoryJoined
-pub use Rattle.table_core.proofs.PartHistoryOrders
-pub use Rattle.table_core.proofs.PartHistoryOwnRows
-pub use Rattle.table_core.proofs.PartHistoryPortions
+pub use Rattle.row_merge.proofs.PartHistoryCounted
+pub use Rattle.row_merge.proofs.PartHistoryJoined
+pub use Rattle.row_merge.proofs.PartHistoryOrders
+pub use Rattle.row_merge.proofs.PartHistoryOwnRows
+pub use Rattle.row_merge.proofs.PartHistoryPortions
 pub use Rattle.row_merge.proofs.HistoryRows as RowMergeHistoryRows
 pub use Rattle.row_merge.proofs.RuleLawPartlyRows
 pub use Rattle.select_plan.proofs.FoldedMatches as SelectPlanFoldedMatches

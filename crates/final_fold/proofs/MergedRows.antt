@@ -18,12 +18,12 @@ use Rattle.mt_values.specs.Schemas.{column_types}
 use Rattle.mt_values.specs.Tables.{partition_of, same_partition, sorting_cmp, sorting_columns}
 use Rattle.mt_values.specs.Values.{Row}
 use Rattle.mt_values.proofs.Orders.{value_exact}
-use Rattle.table_core.specs.mt_model.Folding.{Leaves}
-use Rattle.table_core.specs.mt_model.History.{IsTableSchema}
-use Rattle.table_core.specs.mt_model.Live.{of_key}
-use Rattle.table_core.specs.mt_model.Partial.{MergesAll, TableRun, functions_of}
-use Rattle.table_core.specs.mt_model.Rules.{Run}
-use Rattle.table_core.proofs.MtModelCommands.{partition_is}
+use Rattle.row_merge.specs.mt_model.Folding.{Leaves}
+use Rattle.row_merge.specs.mt_model.History.{IsTableSchema}
+use Rattle.row_merge.specs.mt_model.Live.{of_key}
+use Rattle.row_merge.specs.mt_model.Partial.{MergesAll, TableRun, functions_of}
+use Rattle.row_merge.specs.mt_model.Rules.{Run}
+use Rattle.row_merge.proofs.MtModelCommands.{partition_is}
 use Rattle.row_merge.specs.rule_law.TableRows.{IsRowOf, IsTableRow}
 use Rattle.row_merge.proofs.RuleLawAggregated.{TakesRow, aggregating_keeps}
 use Rattle.row_merge.proofs.RuleLawApartColumns.{partition_apart, sorting_apart}

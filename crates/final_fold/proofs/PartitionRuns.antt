@@ -8,8 +8,8 @@ use Rattle.mt_base.specs.declared.partition.Partition.TheVariants.{Whole, Number
 use Rattle.mt_values.specs.declared.schema.Schema.{Schema}
 use Rattle.mt_values.specs.Tables.{partition_of, same_partition}
 use Rattle.mt_values.specs.Values.{Row}
-use Rattle.table_core.specs.mt_model.Partial.{MergesAll}
-use Rattle.table_core.proofs.MtModelCommands.{partition_is, same_itself}
+use Rattle.row_merge.specs.mt_model.Partial.{MergesAll}
+use Rattle.row_merge.proofs.MtModelCommands.{partition_is, same_itself}
 use Rattle.row_merge.specs.part_reader.declared.reading.Part.{Part}
 use Rattle.row_merge.specs.part_set.Parts.{IsInBlockOrder, StandsClear, partition_rank}
 use Rattle.row_merge.specs.part_set.declared.kept.Kept.{Kept}

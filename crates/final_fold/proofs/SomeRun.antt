@@ -19,7 +19,7 @@ use Rattle.mt_values.specs.Engines.{is_sign}
 use Rattle.mt_values.specs.Grid.{column_of}
 use Rattle.mt_values.specs.Order.{value_cmp}
 use Rattle.mt_values.specs.Values.{Row, type_of}
-use Rattle.table_core.specs.mt_model.Rules.{AreAggregatesFrom, HasSign, IsAggregateOf, IsBest, LeavesNewest, LeavesOneSign, Run, collapsed, function_or_first, is_cancel, is_state, joined_bits, last_of, total, version_at, wrapped_as}
+use Rattle.row_merge.specs.mt_model.Rules.{AreAggregatesFrom, HasSign, IsAggregateOf, IsBest, LeavesNewest, LeavesOneSign, Run, collapsed, function_or_first, is_cancel, is_state, joined_bits, last_of, total, version_at, wrapped_as}
 use Rattle.row_merge.specs.rule_law.TableRows.{IsRowOf}
 use Rattle.row_merge.proofs.RuleLawAggregated.{column_of_one, greater_order, less_order, no_value, passes_not}
 use Rattle.row_merge.proofs.RuleLawNewest.{last_leaves}

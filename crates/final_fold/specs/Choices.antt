@@ -3,7 +3,7 @@ use Rattle.std.specs.Prelude.{ℕ, ℤ, List, [], ◌∷◌, Option, map, slice_
 use Rattle.mt_values.specs.declared.value.Value.{Value}
 use Rattle.mt_values.specs.Grid.{column_of}
 use Rattle.mt_values.specs.Values.{Row}
-use Rattle.table_core.specs.mt_model.Rules.{total}
+use Rattle.row_merge.specs.mt_model.Rules.{total}
 
 -- the numbers of a row in summed columns (docs/engines.md, "Sums")
 abbrev pub sums_of : List ℕ → Row → List ℤ

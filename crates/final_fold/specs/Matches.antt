@@ -8,7 +8,7 @@ use Rattle.mt_values.specs.Schemas.{column_types}
 use Rattle.mt_values.specs.Tests.{eval}
 use Rattle.mt_values.specs.Values.{Row}
 use Rattle.mt_outside.specs.Files.{Files}
-use Rattle.table_core.specs.part_name.declared.part.PartName.{PartName}
+use Rattle.row_merge.specs.part_set.part_name.declared.part.PartName.{PartName}
 use Rattle.row_merge.specs.part_reader.declared.reading.Part.{Part}
 use Rattle.row_merge.specs.part_reader.declared.reading.PartFault.{PartFault}
 use Rattle.row_merge.specs.part_reader.Faults.{ExplainsAt}

@@ -1,25 +1,22 @@
 // What FINAL may see, what merges of all rows leave, and of which parts no damage is told. The functions have empty bodies and the laws as their contracts.
-ghost use Rattle.std.specs.Prelude.{◌≡◌, ◌≤◌, ◌++◌, ℕ, Bool, List, All, Option, Some, filter, length, map, not, true};
+ghost use Rattle.std.specs.Prelude.{◌≡◌, ◌≤◌, ◌++◌, ℕ, Bool, List, All, Option, filter, length, map, not, true};
 ghost use Rattle.std.specs.List.{Contains as HasItem, list_any};
 ghost use Rattle.mt_base.specs.declared.partition.Partition.{Partition};
 ghost use Rattle.mt_values.specs.Tables.{partition_of};
 ghost use Rattle.mt_values.specs.Values.{Row};
 ghost use Rattle.mt_values.specs.declared.engine.Engine.TheVariants as engine;
 ghost use Rattle.mt_values.specs.declared.schema.Schema.{Schema};
-ghost use Rattle.table_core.specs.mt_model.History.{IsTableSchema};
-ghost use Rattle.table_core.specs.mt_model.Partial.{MergesAll, Partly};
+ghost use Rattle.row_merge.specs.mt_model.History.{IsTableSchema};
+ghost use Rattle.row_merge.specs.mt_model.Partial.{MergesAll, Partly};
 ghost use Rattle.row_merge.specs.rule_law.TableRows.{IsTableRow};
 ghost use Rattle.std.specs.List.Sorted.{IsPermutation};
 ghost use Rattle.mt_values.specs.declared.statement.SelectText.{SelectText};
-ghost use Rattle.table_core.specs.mt_model.Answer.{Answer};
-ghost use Rattle.table_core.specs.mt_model.Final.{FoldOnce, FoldsAll, KeysFoldOnce};
-ghost use Rattle.table_core.specs.mt_model.History.{History, schema_of};
-ghost use Rattle.table_core.specs.mt_model.Live.{live, of_key};
-ghost use Rattle.table_core.specs.mt_model.Rules.{alternate, is_state, last_of};
-ghost use Rattle.table_core.specs.declared.event.Event.{Event};
-ghost use Rattle.table_core.specs.Core.{Core};
+ghost use Rattle.row_merge.specs.mt_model.Answer.{Answer};
+ghost use Rattle.row_merge.specs.mt_model.Final.{FoldOnce, FoldsAll, KeysFoldOnce};
+ghost use Rattle.row_merge.specs.mt_model.History.{History};
+ghost use Rattle.row_merge.specs.mt_model.Live.{live, of_key};
+ghost use Rattle.row_merge.specs.mt_model.Rules.{alternate, is_state, last_of};
 ghost use Rattle.final_fold.specs.Choices.{signs_of, sums_of};
-ghost use Rattle.final_fold.specs.Cores.{LeadTo, MergesVisible};
 ghost use Rattle.final_fold.specs.Folded.{ExplainsFold};
 ghost use Rattle.final_fold.specs.Keys.{SaysOfKeys, is_of_key};
 ghost use Rattle.final_fold.specs.Matches.{ExplainsMatches, SayOfEach};
@@ -30,7 +27,7 @@ ghost use Rattle.row_merge.specs.part_reader.Faults.{IsNoDamage};
 ghost use Rattle.row_merge.specs.part_reader.declared.reading.Part.{Part};
 ghost use Rattle.row_merge.specs.part_reader.declared.reading.PartFault.{PartFault};
 ghost use Rattle.row_merge.specs.part_set.declared.kept.Kept.{Kept};
-ghost use Rattle.table_core.specs.part_name.declared.part.PartName.{PartName};
+ghost use Rattle.row_merge.specs.part_set.part_name.declared.part.PartName.{PartName};
 
 /// Whatever was merged before, and at whatever times, one merge of all that is left is what FINAL may leave of the live rows.
 pub fn partly_folded_rows_fold_as_all()
@@ -98,25 +95,6 @@ pub fn final_answers_differ_in_free_choices()
         → alternate sign (of_key schema partition row live) ≡ true → FoldsAll schema live out
         → of_key schema partition row out ≡ filter (is_state sign)
         (last_of (of_key schema partition row live)) }
-{}
-
-/// After any events of the core, merges and crashes among them, the rows of a table's visible parts can be merged, and one merge of
-/// all of them is what FINAL may leave of the table's live rows. So it does not depend on what was merged: after two lists of
-/// events that end with the same history the same rows are left, where the rows of each key fold to one thing.
-pub fn final_rows_do_not_depend_on_events()
-    ensures merged { (events : List Event) (core : Core) (table : List ℕ) (schema : Schema)
-        → LeadTo events core → schema_of table core.history ≡ Some schema
-        → (out : List Row) × MergesVisible schema table core out }
-    ensures folds { (events : List Event) (core : Core) (table : List ℕ) (schema : Schema)
-        (out : List Row) → LeadTo events core → schema_of table core.history ≡ Some schema
-        → MergesVisible schema table core out
-        → FoldsAll schema (live table schema core.history) out }
-    ensures same { (events others : List Event) (one two : Core) (table : List ℕ)
-        (schema : Schema) (a b : List Row) → LeadTo events one → LeadTo others two
-        → one.history ≡ two.history → schema_of table one.history ≡ Some schema
-        → KeysFoldOnce schema (live table schema one.history)
-        → MergesVisible schema table one a → MergesVisible schema table two b
-        → IsPermutation a b }
 {}
 
 /// What is told of parts that hold rows of their table is no damage: where columns of chosen granules were read, with FINAL or without it,

@@ -3,9 +3,9 @@
 
 mod adding;
 mod asking;
-mod chosen;
 mod counts;
 mod folding;
+mod found;
 mod laws;
 mod matches;
 mod picked;
@@ -14,9 +14,8 @@ pub use asking::Wanted;
 pub use counts::count_rows;
 pub use folding::final_rows;
 pub use laws::{
-    final_answers_are_determined, final_answers_differ_in_free_choices,
-    final_rows_do_not_depend_on_events, keys_merge_apart, partly_folded_rows_fold_as_all,
-    parts_with_rows_are_not_damaged, rows_can_be_merged,
+    final_answers_are_determined, final_answers_differ_in_free_choices, keys_merge_apart,
+    partly_folded_rows_fold_as_all, parts_with_rows_are_not_damaged, rows_can_be_merged,
 };
 pub use matches::add_matches;
 pub use picked::{Picked, pick_columns};

@@ -15,9 +15,9 @@ use mt_outside::Arm;
 use mt_values::ColumnData;
 use row_merge::part_reader::{Part, PartFault};
 use row_merge::part_set::Kept;
+use row_merge::part_set::part_name::PartName;
 use select_plan::ask;
 use std::alloc::Global;
-use table_core::part_name::PartName;
 
 /// Adds the rows of a table's parts that meet a condition to columns, part by part: of each the values at the wanted places. The chosen
 /// granules of a part have each of its rows that meets the condition. First the columns of the conjuncts that are asked somewhere in

@@ -17,10 +17,10 @@ use Rattle.table_core.proofs.PartHistoryNumbered.{legal_schema}
 use Rattle.table_core.specs.declared.event.Event.{Event}
 use Rattle.table_core.specs.Core.{Core, IsCore, IsSnapshot, empty_core}
 use Rattle.table_core.proofs.Telling.{run_core}
-use Rattle.row_merge.specs.rule_law.TableRows.{IsTableRow}
-use Rattle.row_merge.proofs.HistoryRows.{table_rows}
-use Rattle.row_merge.proofs.RuleLawPartlyRows.{partly_table}
-use Rattle.final_fold.specs.Cores.{LeadTo, MergesVisible}
+use Rattle.final_fold.specs.rule_law.TableRows.{IsTableRow}
+use Rattle.final_fold.proofs.RowMergeHistoryRows.{table_rows}
+use Rattle.final_fold.proofs.RuleLawPartlyRows.{partly_table}
+use Rattle.final_events.specs.Cores.{LeadTo, MergesVisible}
 use Rattle.final_fold.proofs.FoldedAll.{partly_folds}
 use Rattle.final_fold.proofs.FoldedOnce.{rows_once}
 use Rattle.final_fold.proofs.MergedRows.{merges_exist}

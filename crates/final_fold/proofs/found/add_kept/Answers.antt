@@ -9,7 +9,7 @@ use Rattle.row_merge.specs.part_reader.Parts.{with_columns}
 use Rattle.final_fold.specs.Matches.{matching}
 use Rattle.final_fold.proofs.RowValues.{match_added, passed, row_types, row_within, rows_reach, with_even, with_none, with_types}
 use Rattle.final_fold.proofs.Scanning.{have_many}
-use Rattle.final_fold.proofs.folding.add_kept.Goals as goal
+use Rattle.final_fold.proofs.found.add_kept.Goals as goal
 
 pub loop-row-init : goal.loop-row-init
 loop-row-init c =

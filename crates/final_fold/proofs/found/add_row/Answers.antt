@@ -7,7 +7,7 @@ use Rattle.mt_values.specs.Values.{type_of}
 use Rattle.row_merge.proofs.PartReaderGaining.{read_all, read_more, rest_more}
 use Rattle.final_fold.proofs.Gains.{GainsRows, gained_rows}
 use Rattle.final_fold.proofs.RowValues.{one_value, row_many, row_type}
-use Rattle.final_fold.proofs.folding.add_row.Goals as goal
+use Rattle.final_fold.proofs.found.add_row.Goals as goal
 
 pub bounds-columns-number : goal.bounds-columns-number
 bounds-columns-number c =

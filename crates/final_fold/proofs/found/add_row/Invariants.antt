@@ -3,7 +3,7 @@ use Rattle.std.proofs.Common.{◌≡◌, ◌∷◌, [], ℕ, ◌≤◌, get_or, 
 use Rattle.mt_values.specs.Grid.{Cells}
 use Rattle.row_merge.specs.part_reader.Columns.{AreEach}
 use Rattle.final_fold.proofs.Gains.{GainsRows}
-use Rattle.final_fold.proofs.folding.add_row.Given as goal
+use Rattle.final_fold.proofs.found.add_row.Given as goal
 
 abbrev pub invariant-loop-number : goal.invariant-loop-number
 invariant-loop-number l = record {

@@ -1,5 +1,5 @@
-use Rattle.final_fold.proofs.CoreRows.{events_fold, events_merge, same_rows}
-use Rattle.final_fold.proofs.laws.final_rows_do_not_depend_on_events.Goals as goal
+use Rattle.final_events.proofs.CoreRows.{events_fold, events_merge, same_rows}
+use Rattle.final_events.proofs.laws.final_rows_do_not_depend_on_events.Goals as goal
 
 pub returns-clause-merged : goal.returns-clause-merged
 returns-clause-merged c = events_merge

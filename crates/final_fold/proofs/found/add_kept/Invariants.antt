@@ -2,7 +2,7 @@
 use Rattle.std.proofs.Common.{◌≡◌, ◌≤◌, length, take}
 use Rattle.row_merge.specs.part_reader.Parts.{with_columns}
 use Rattle.final_fold.specs.Matches.{matching}
-use Rattle.final_fold.proofs.folding.add_kept.Given as goal
+use Rattle.final_fold.proofs.found.add_kept.Given as goal
 
 abbrev pub invariant-loop-row : goal.invariant-loop-row
 invariant-loop-row l = record {
