@@ -768,17 +768,16 @@ class Disk:
         self.call(None, None, "sync-names")
         self.settled = len(self.published)
 
-    def write(self, files):
-        """Writes a stage of this many files, by one append each, and then syncs each of them."""
+    def write(self, files, appends):
+        """Writes a stage of this many files by so many appends, and then syncs each of them."""
         self.call(0, None, "stage")
-        for kind in ["append"] * files + ["sync"] * files:
+        for kind in ["append"] * appends + ["sync"] * files:
             self.call(0, self.stages, kind)
         self.stages += 1
 
-    def read(self, parts, columns, calls):
-        """Reads that many columns of each part that has rows, of one granule, each by some calls: one for a granule, and two for a file, of
-        which the second meets its end."""
-        for _ in range(calls * columns * sum(len(part["rows"]) > 0 for part in parts)):
+    def read(self, parts, columns):
+        """Reads that many columns of each part that has rows, each of one granule, by one call."""
+        for _ in range(columns * sum(len(part["rows"]) > 0 for part in parts)):
             self.call(0, None, "read")
 
     def read_chosen(self, columns, chosen):
@@ -842,7 +841,7 @@ class Store:
 
     def create(self, create):
         schema, table = schema_of(create), create["table"]
-        self.disk.write(1)
+        self.disk.write(1, 1)
         if table in self.tables:
             raise Refused(b"E03 " + table)
         if len(self.tables) == 64:
@@ -857,17 +856,20 @@ class Store:
         self.commands.append(command)
         self.disk.noted += 1
 
-    def write(self, schema):
-        """Writes the stage of a part: its columns, its indexes, marks, keys and a manifest."""
-        self.disk.write(len(schema["columns"]) + len(schema["indexes"]) + 3)
+    def write(self, schema, rows):
+        """Writes the stage of a part of rows: its files are made without bytes, the columns grow by each granule, and then come marks, keys,
+        indexes and the manifest."""
+        columns, others = len(schema["columns"]), len(schema["indexes"]) + 2
+        granules = -(-len(rows) // schema["granularity"])
+        self.disk.write(columns + others + 1, columns + others + columns * granules + others + 1)
 
     def insert(self, table, data):
         schema, parts = self.found(table)
         groups = {}
         for row in rows_of(schema, data):
             groups.setdefault(None if schema["partition"] is None else row[schema["partition"]], []).append(row)
-        for _ in groups:
-            self.write(schema)
+        for rows in groups.values():
+            self.write(schema, rows)
         for accepted, (partition, rows) in enumerate(groups.items()):
             if len(self.parts_in(parts, partition)) == 3000:
                 raise Refused(f"E12 parts 3000 {accepted}")
@@ -885,9 +887,9 @@ class Store:
 
     def merge(self, schema, parts, sources):
         """Merges neighbours, and puts what they become in their place."""
-        self.disk.read(sources, len(schema["columns"]), 2)
-        self.write(schema)
+        self.disk.read(sources, len(schema["columns"]))
         part = merged(schema, sources)
+        self.write(schema, part["rows"])
         self.turn(part, 0)
         parts[:] = [part if each is sources[0] else each for each in parts if all(each is not source for source in sources[1:])]
 
@@ -946,7 +948,7 @@ class Store:
         elif condition != ("and", []) and self.disk.failing:
             raise Unknown
         else:
-            self.disk.read(parts, len(set(places)), 1)
+            self.disk.read(parts, len(set(places)))
         rows = self.seen(schema, parts, is_final, condition)
         found = sorted([row[place] for place in places] for row in rows)
         lines = [b"ROWS %d PREFIX %d" % (len(found), self.length)]
