@@ -1,8 +1,9 @@
--- Fronts of lists, the longer of two fronts, and the entries of one session.
-use Rattle.std.proofs.Common.{◌≡◌, ◌≢◌, ◌<◌, ◌≤◌, ◌==◌, ◌∷◌, ◌++◌, [], ℕ, All, Bool, List, true, false, cond, length, nat_lt, refl, sym, ap, ◌∙◌, arith, append_assoc, append-nil, eq-eqb, ltb-true, ltb-false, ne_eqb, true≢false}
+-- Fronts of lists, the longer of two fronts, the entries of one session, and what is begun.
+use Rattle.std.proofs.Common.{◌≡◌, ◌≢◌, ◌+◌, ◌<◌, ◌≤◌, ◌==◌, ◌∷◌, ◌++◌, [], ℕ, All, Bool, List, Option, None, Some, true, false, cond, length, nat_lt, refl, sym, ap, ◌∙◌, arith, append_assoc, append-nil, eq-eqb, ltb-true, ltb-false, ne_eqb, true≢false}
 use Rattle.std.proofs.lemmas.List.Elements.{All-head, All-tail, filter-append}
 use Rattle.mt_values.specs.declared.command.Entry.{Entry}
-use Rattle.history_seat.specs.Views.{Begins, leading, own}
+use Rattle.history_seat.specs.declared.view.View.{View}
+use Rattle.history_seat.specs.Views.{Begins, KnowsBegun, begun_of, counted, leading, newcomer, own}
 
 pub begins_itself : (xs : List Entry) → Begins xs xs
 begins_itself xs = ([], append-nil xs)
@@ -46,6 +47,24 @@ pub leads_whole : (b c : Bool) (xs ys list : List Entry) → (b ≡ true → xs 
 leads_whole true c xs ys list one two pen = one refl
 leads_whole false true xs ys list one two pen = two refl
 leads_whole false false xs ys list one two pen = absurd (true≢false (sym pen))
+
+-- and it knows what is begun
+pub begun_whole : (b c : Bool) (x y now : Option Entry) → (b ≡ true → x ≡ now) → (c ≡ true → y ≡ now) → cond b true c ≡ true → begun_of b c x y ≡ now
+begun_whole true c x y now one two pen = one refl
+begun_whole false true x y now one two pen = two refl
+begun_whole false false x y now one two pen = absurd (true≢false (sym pen))
+
+-- what session 0 knows of what is begun, once it made a session more, and what that knows
+pub maker_knows : (v : View) (now : Option Entry) → KnowsBegun v now → KnowsBegun (counted v) now
+maker_knows v None k = tt
+maker_knows v (Some e) k = (k.0, λ zeroth. let low = k.1 zeroth in let more : e.session ≤ v.made + 1 = omega (arith, low) in more)
+
+pub made_knows : (v : View) (now : Option Entry) → v.number ≡ 0 → KnowsBegun v now → KnowsBegun (newcomer v) now
+made_knows v None zeroth k = tt
+made_knows v (Some e) zeroth k = (
+  λ same. absurd (let low = k.1 zeroth in let is : e.session ≡ v.made + 1 = same in omega (arith, low, is)),
+  λ none. absurd (let no : v.made + 1 ≡ 0 = none in omega (arith, no)),
+)
 
 pub own_more : (n : ℕ) (list : List Entry) (e : Entry) → e.session ≡ n → own n (list ++ e ∷ []) ≡ own n list ++ e ∷ []
 own_more n list e same = filter-append (λ (x : Entry). x.session == n) list (e ∷ []) ∙ ap (λ b. own n list ++ cond b (e ∷ []) []) (eq-eqb e.session n same)

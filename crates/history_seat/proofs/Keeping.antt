@@ -1,14 +1,14 @@
 -- Each step keeps one history, and its list only grows.
-use Rattle.std.proofs.Common.{◌≡◌, ◌≢◌, ◌⊎◌, ◌+◌, ◌≤◌, ◌∷◌, ◌++◌, [], ℕ, All, Bool, List, true, false, cond, length, set, refl, sym, ap, ◌∙◌, subst, ⊎_elim, inl, inr, arith, append-nil, length-append, true≢false}
+use Rattle.std.proofs.Common.{◌≡◌, ◌≢◌, ◌⊎◌, ◌+◌, ◌≤◌, ◌∷◌, ◌++◌, [], ℕ, All, Bool, List, Option, None, Some, true, false, cond, length, set, refl, sym, ap, ◌∙◌, subst, ⊎_elim, inl, inr, arith, append-nil, length-append, true≢false}
 use Rattle.std.proofs.lemmas.List.Elements.{All-append, All-cons, All-nil}
 use Rattle.atomic_table.proofs.Lists.{at_last, at_longer, set_else, set_here}
 use Rattle.mt_values.specs.declared.command.Entry.{Entry}
 use Rattle.history_seat.specs.declared.view.Kind.TheVariants as kind
 use Rattle.history_seat.specs.declared.view.View.{View}
 use Rattle.history_seat.specs.Rule.{AreNumbered, Fits, Has, IsOpened, OneHistory, SitsAt, Standing, standing}
-use Rattle.history_seat.specs.Steps.{Makes, Step, adds, loads, makes, meets, notes, notes_plainly, opens}
-use Rattle.history_seat.specs.Views.{Begins, counted, grown, is_seat, leading, lock_view, met, newcomer, note_of, own, plain_note_of, session_view, spent_view, unopened_view, without_pen}
-use Rattle.history_seat.proofs.Fronts.{begins_itself, begins_more, begins_through, leads, leads_whole, own_else, own_more, own_none}
+use Rattle.history_seat.specs.Steps.{Makes, Step, adds, loads, makes, meets, notes, notes_plainly, opens, tries}
+use Rattle.history_seat.specs.Views.{Begins, counted, grown, is_seat, leading, lock_view, met, newcomer, note_of, own, plain_note_of, session_view, spent_view, unopened_view, with_try, without_pen}
+use Rattle.history_seat.proofs.Fronts.{begins_itself, begins_more, begins_through, begun_whole, leads, leads_whole, made_knows, maker_knows, own_else, own_more, own_none}
 use Rattle.history_seat.proofs.Places.{Stays, each_more, each_set, has_one, has_place, only_view, stays_itself, stays_noted, stays_set, stays_spent}
 
 -- a history whose list begins with this one
@@ -16,9 +16,9 @@ pub record Grown (base : ℕ) (list : List Entry) (new : Standing) : Type 0 wher
   pub after : OneHistory base new
   pub grows : Begins list after.list
 
--- every view fits the list
-abbrev AllFit : ℕ → List Entry → List View → Type 0
-AllFit holder list views = (j : ℕ) (u : View) → Has views j u → Fits holder list j u
+-- every view fits the list and what is begun
+abbrev AllFit : ℕ → List Entry → Option Entry → List View → Type 0
+AllFit holder list now views = (j : ℕ) (u : View) → Has views j u → Fits holder list now j u
 
 -- session 0 has made whoever has an entry
 abbrev AllNamed : List Entry → List View → Type 0
@@ -54,11 +54,12 @@ opened_still old new o stays =
 
 -- what a step owes that leaves the sessions where they are
 goes_on : (base : ℕ) (old : Standing) (h : OneHistory base old) → IsOpened old.views
-    → (word : ℕ) (new : List View) (list : List Entry) (holder : ℕ) → Begins h.list list → word ≡ base + length list
-    → ((v : View) × Has new holder v × (v.pen ≡ true)) → AllFit holder list new → Stays old.views new → AllNamed list old.views → Grown base h.list (standing word new)
-goes_on base old h o word new list holder grows is held fit stays named = record {
+    → (word : ℕ) (new : List View) (list : List Entry) (now : Option Entry) (holder : ℕ) → Begins h.list list → word ≡ base + length list
+    → ((v : View) × Has new holder v × (v.pen ≡ true)) → AllFit holder list now new → Stays old.views new → AllNamed list old.views → Grown base h.list (standing word new)
+goes_on base old h o word new list now holder grows is held fit stays named = record {
   after = record {
     list = list;
+    begun = now;
     word = is;
     holder = holder;
     held = held;
@@ -85,27 +86,64 @@ adding base old h by v e sits named pen =
     let mine = h.each by v sits.0 in
     let held = mine.pen pen in
     let list = h.list ++ e ∷ [] in
-    goes_on base old h o (old.word + 1) (set old.views by (grown v e)) list h.holder (begins_more h.list h.list (e ∷ []) (begins_itself h.list))
+    goes_on base old h o (old.word + 1) (set old.views by (grown v e)) list None h.holder (begins_more h.list h.list (e ∷ []) (begins_itself h.list))
     (omega (arith, h.word, length-append h.list (e ∷ [])))
     (grown v e, subst (λ i. Has (set old.views by (grown v e)) i (grown v e)) held.0 (set_here old.views by (grown v e) (has_place old.views by v sits.0)), pen)
-    (each_set (Fits h.holder list) old.views by (grown v e)
+    (each_set (Fits h.holder list None) old.views by (grown v e)
     (λ j u else at.
     let f = h.each j u at in record {
       pen = λ p. absurd (else ((f.pen p).0 ∙ sym held.0));
+      begun = λ p. absurd (else ((f.pen p).0 ∙ sym held.0));
       front = begins_more u.list h.list (e ∷ []) f.front;
       olds = f.olds;
       mine = λ k. f.mine k ∙ sym (own_else u.number h.list e (λ same. absurd (else (h.numbered.differ j by u v (at, k) sits (sym same ∙ named)))));
+      knows = λ _. tt;
     })
     (record {
       pen = λ _. (held.0, ap (λ l. l ++ e ∷ []) held.1);
+      begun = λ _. refl;
       front = ([], append-nil _ ∙ ap (λ l. l ++ e ∷ []) held.1);
       olds = λ k d b. begins_more _ v.list (e ∷ []) (mine.olds k d b);
       mine = λ k. ap (λ l. l ++ e ∷ []) (mine.mine k) ∙ sym (own_more v.number h.list e named);
+      knows = λ _. tt;
     }))
     (stays_set old.views by v (grown v e) sits.0 refl refl refl o.all)
     (λ j z there none.
     All-append (λ (x : Entry). x.session ≤ z.made) h.list (e ∷ []) (h.numbered.named j z there none)
     (All-cons (λ (x : Entry). x.session ≤ z.made) e [] (let below = h.numbered.bounded by j v z sits there none in omega (arith, named, below)) (All-nil (λ (x : Entry). x.session ≤ z.made))))
+
+-- an entry was tried and is begun
+trying : (base : ℕ) (old : Standing) (h : OneHistory base old) (by : ℕ) (v : View) (e : Entry) → SitsAt old.views by v → e.session ≡ v.number → v.pen ≡ true
+    → Grown base h.list (standing old.word (set old.views by (with_try v e)))
+trying base old h by v e sits named pen =
+    let o = opened_by old.views by v h.opened sits.0 (ap is_seat sits.1) in
+    let mine = h.each by v sits.0 in
+    let held = mine.pen pen in
+    goes_on base old h o old.word (set old.views by (with_try v e)) h.list (Some e) h.holder (begins_itself h.list) h.word
+    (with_try v e, subst (λ i. Has (set old.views by (with_try v e)) i (with_try v e)) held.0 (set_here old.views by (with_try v e) (has_place old.views by v sits.0)), pen)
+    (each_set (Fits h.holder h.list (Some e)) old.views by (with_try v e)
+    (λ j u else at.
+    let f = h.each j u at in record {
+      pen = λ p. absurd (else ((f.pen p).0 ∙ sym held.0));
+      begun = λ p. absurd (else ((f.pen p).0 ∙ sym held.0));
+      front = f.front;
+      olds = f.olds;
+      mine = f.mine;
+      knows = λ k. (
+        λ same. absurd (else (h.numbered.differ j by u v (at, k) sits (sym same ∙ named))),
+        λ zeroth. let below = h.numbered.bounded by j v u sits (at, k) zeroth in let made : e.session ≤ u.made = omega (arith, named, below) in made,
+      );
+    })
+    (record {
+      pen = λ _. held;
+      begun = λ _. refl;
+      front = mine.front;
+      olds = mine.olds;
+      mine = mine.mine;
+      knows = λ _. (λ _. refl, λ zeroth. let made : e.session ≤ v.made = omega (arith, named, zeroth) in made);
+    }))
+    (stays_set old.views by v (with_try v e) sits.0 refl refl refl o.all)
+    h.numbered.named
 
 -- a note of a view, whoever has the pen
 noting_if : (base : ℕ) (old : Standing) (h : OneHistory base old) (by : ℕ) (v : View) (b : Bool) → v.pen ≡ b → Has old.views by v → is_seat v.kind ≡ true
@@ -116,26 +154,34 @@ noting_if base old h by v true pen at is =
     let held = mine.pen pen in
     let mid = set old.views by (without_pen v) in
     let n = length mid in
-    goes_on base old h o old.word (mid ++ note_of v ∷ []) h.list n (begins_itself h.list) h.word
+    goes_on base old h o old.word (mid ++ note_of v ∷ []) h.list h.begun n (begins_itself h.list) h.word
     (note_of v, at_last mid (note_of v) n refl, pen)
-    (each_more (Fits n h.list) mid (note_of v)
-    (each_set (Fits n h.list) old.views by (without_pen v)
-    (λ j u else there. let f = h.each j u there in record { pen = λ p. absurd (else ((f.pen p).0 ∙ sym held.0)); front = f.front; olds = f.olds; mine = f.mine })
-    (record { pen = λ p. absurd (cc); front = mine.front; olds = mine.olds; mine = mine.mine }))
-    (record { pen = λ _. (refl, held.1); front = mine.front; olds = All-nil _; mine = λ k. absurd (cc) }))
+    (each_more (Fits n h.list h.begun) mid (note_of v)
+    (each_set (Fits n h.list h.begun) old.views by (without_pen v)
+    (λ j u else there.
+    let f = h.each j u there in record {
+      pen = λ p. absurd (else ((f.pen p).0 ∙ sym held.0));
+      begun = λ p. absurd (else ((f.pen p).0 ∙ sym held.0));
+      front = f.front;
+      olds = f.olds;
+      mine = f.mine;
+      knows = f.knows;
+    })
+    (record { pen = λ p. absurd (cc); begun = λ p. absurd (cc); front = mine.front; olds = mine.olds; mine = mine.mine; knows = mine.knows }))
+    (record { pen = λ _. (refl, held.1); begun = λ _. mine.begun pen; front = mine.front; olds = All-nil _; mine = λ k. absurd (cc); knows = λ k. absurd (cc) }))
     (stays_noted old.views mid (note_of v) (stays_set old.views by v (without_pen v) at refl refl refl o.all) refl)
     h.numbered.named
 noting_if base old h by v false pen at is =
     let o = opened_by old.views by v h.opened at is in
     let mine = h.each by v at in
     let mid = set old.views by (without_pen v) in
-    goes_on base old h o old.word (mid ++ note_of v ∷ []) h.list h.holder (begins_itself h.list) h.word
+    goes_on base old h o old.word (mid ++ note_of v ∷ []) h.list h.begun h.holder (begins_itself h.list) h.word
     (h.held.0, at_longer mid (note_of v ∷ []) h.holder h.held.0 (set_else old.views by h.holder (without_pen v) (not_holder base old h by v at pen) ∙ h.held.1), h.held.2)
-    (each_more (Fits h.holder h.list) mid (note_of v)
-    (each_set (Fits h.holder h.list) old.views by (without_pen v)
+    (each_more (Fits h.holder h.list h.begun) mid (note_of v)
+    (each_set (Fits h.holder h.list h.begun) old.views by (without_pen v)
     (λ j u _ there. h.each j u there)
-    (record { pen = λ p. absurd (cc); front = mine.front; olds = mine.olds; mine = mine.mine }))
-    (record { pen = λ p. absurd (true≢false (sym p ∙ pen)); front = mine.front; olds = All-nil _; mine = λ k. absurd (cc) }))
+    (record { pen = λ p. absurd (cc); begun = λ p. absurd (cc); front = mine.front; olds = mine.olds; mine = mine.mine; knows = mine.knows }))
+    (record { pen = λ p. absurd (true≢false (sym p ∙ pen)); begun = λ p. absurd (true≢false (sym p ∙ pen)); front = mine.front; olds = All-nil _; mine = λ k. absurd (cc); knows = λ k. absurd (cc) }))
     (stays_noted old.views mid (note_of v) (stays_set old.views by v (without_pen v) at refl refl refl o.all) refl)
     h.numbered.named
 
@@ -144,10 +190,10 @@ noting_plainly : (base : ℕ) (old : Standing) (h : OneHistory base old) (by : �
 noting_plainly base old h by v at is =
     let o = opened_by old.views by v h.opened at is in
     let mine = h.each by v at in
-    goes_on base old h o old.word (old.views ++ plain_note_of v ∷ []) h.list h.holder (begins_itself h.list) h.word
+    goes_on base old h o old.word (old.views ++ plain_note_of v ∷ []) h.list h.begun h.holder (begins_itself h.list) h.word
     (h.held.0, at_longer old.views (plain_note_of v ∷ []) h.holder h.held.0 h.held.1, h.held.2)
-    (each_more (Fits h.holder h.list) old.views (plain_note_of v) h.each
-    (record { pen = λ p. absurd (cc); front = mine.front; olds = All-nil _; mine = λ k. absurd (cc) }))
+    (each_more (Fits h.holder h.list h.begun) old.views (plain_note_of v) h.each
+    (record { pen = λ p. absurd (cc); begun = λ p. absurd (cc); front = mine.front; olds = All-nil _; mine = λ k. absurd (cc); knows = λ k. absurd (cc) }))
     (stays_noted old.views old.views (plain_note_of v) (stays_itself old.views o.all) refl)
     h.numbered.named
 
@@ -175,18 +221,28 @@ meeting_with base old h by other v w m holder held here pens =
     let list = leading v.pen w.pen v.list w.list in
     let l = leads v.pen w.pen v.list w.list h.list mine.front theirs.front (λ p. (mine.pen p).1) (λ p. (theirs.pen p).1) in
     let there = set_else old.views by other (met v w) (apart old.views by other v w m) ∙ m.there in
-    goes_on base old h o old.word (set mid other spent_view) h.list holder (begins_itself h.list) h.word held
-    (each_set (Fits holder h.list) mid other spent_view
-    (λ j u else at. each_set (λ i x. i ≢ other → Fits holder h.list i x) old.views by (met v w)
-    (λ i x away has far. let f = h.each i x has in record { pen = λ p. (pens i x away far has p, (f.pen p).1); front = f.front; olds = f.olds; mine = f.mine })
+    goes_on base old h o old.word (set mid other spent_view) h.list h.begun holder (begins_itself h.list) h.word held
+    (each_set (Fits holder h.list h.begun) mid other spent_view
+    (λ j u else at. each_set (λ i x. i ≢ other → Fits holder h.list h.begun i x) old.views by (met v w)
+    (λ i x away has far.
+    let f = h.each i x has in record {
+      pen = λ p. (pens i x away far has p, (f.pen p).1);
+      begun = f.begun;
+      front = f.front;
+      olds = f.olds;
+      mine = f.mine;
+      knows = f.knows;
+    })
     (λ _. record {
       pen = λ p. (here p, leads_whole v.pen w.pen v.list w.list h.list (λ q. (mine.pen q).1) (λ q. (theirs.pen q).1) p);
+      begun = λ p. begun_whole v.pen w.pen v.begun w.begun h.begun mine.begun theirs.begun p;
       front = l.front;
       olds = All-cons (λ x. Begins x list) v.list (w.list ∷ v.olds) l.first (All-cons (λ x. Begins x list) w.list v.olds l.second (λ k d b. begins_through _ v.list list (mine.olds k d b) l.first));
       mine = mine.mine;
+      knows = mine.knows;
     })
     j u at else)
-    (record { pen = λ p. absurd (cc); front = (h.list, refl); olds = All-nil _; mine = λ k. absurd (cc) }))
+    (record { pen = λ p. absurd (cc); begun = λ p. absurd (cc); front = (h.list, refl); olds = All-nil _; mine = λ k. absurd (cc); knows = λ k. absurd (cc) }))
     (stays_spent old.views mid other w spent_view (stays_set old.views by v (met v w) m.at refl refl refl o.all) there m.note refl)
     h.numbered.named
 
@@ -282,18 +338,21 @@ making base old h by v sits zeroth =
     let here = set_here old.views by (counted v) (has_place old.views by v sits.0) in record {
       after = record {
         list = h.list;
+        begun = h.begun;
         word = h.word;
         holder = h.holder;
         held = held_still v.pen refl;
-        each = each_more (Fits h.holder h.list) mid (newcomer v)
-            (each_set (Fits h.holder h.list) old.views by (counted v)
+        each = each_more (Fits h.holder h.list h.begun) mid (newcomer v)
+            (each_set (Fits h.holder h.list h.begun) old.views by (counted v)
             (λ j u _ at. h.each j u at)
-            (record { pen = mine.pen; front = mine.front; olds = mine.olds; mine = mine.mine }))
+            (record { pen = mine.pen; begun = mine.begun; front = mine.front; olds = mine.olds; mine = mine.mine; knows = λ k. maker_knows v h.begun (mine.knows k) }))
             (record {
               pen = λ p. absurd (cc);
+              begun = λ p. absurd (cc);
               front = mine.front;
               olds = All-nil _;
               mine = λ _. sym (own_none (v.made + 1) h.list (λ k d b. let below = h.numbered.named by v sits zeroth k d b in omega (arith, below)));
+              knows = λ _. made_knows v h.begun zeroth (mine.knows sits.1);
             });
         numbered = numbered_more h.list old.views by v sits zeroth h.numbered;
         opened = inr (record {
@@ -323,11 +382,12 @@ opened_first : (base word : ℕ) (list : List Entry) → word ≡ base + length 
 opened_first base word list is none = record {
   after = record {
     list = list;
+    begun = None;
     word = is;
     holder = 0;
     held = (lock_view, refl, refl);
-    each = each_more (Fits 0 list) (lock_view ∷ []) (session_view 0 []) (λ j u at. lock_fits j u (only_view lock_view u j at))
-        (record { pen = λ p. absurd (cc); front = (list, refl); olds = All-nil _; mine = λ _. ap (own 0) none });
+    each = each_more (Fits 0 list None) (lock_view ∷ []) (session_view 0 []) (λ j u at. lock_fits j u (only_view lock_view u j at))
+        (record { pen = λ p. absurd (cc); begun = λ p. absurd (cc); front = (list, refl); olds = All-nil _; mine = λ _. ap (own 0) none; knows = λ _. tt });
     numbered = record {
       differ = λ i j v w a b _. (zero_sits i v a).0 ∙ sym (zero_sits j w b).0;
       bounded = λ i j v z a b _. let one = ap (λ u. u.number) (zero_sits i v a).1 in omega (arith, one);
@@ -338,8 +398,9 @@ opened_first base word list is none = record {
   grows = begins_itself list;
 }
   where
-    lock_fits : (j : ℕ) (u : View) → (j ≡ 0) × (u ≡ lock_view) → Fits 0 list j u
-    lock_fits j u is = subst (λ (y : ℕ × View). Fits 0 list y.0 y.1) (λ i. (sym is.0 i, sym is.1 i)) (record { pen = λ _. (refl, none); front = (list, refl); olds = All-nil _; mine = λ k. absurd (cc) })
+    lock_fits : (j : ℕ) (u : View) → (j ≡ 0) × (u ≡ lock_view) → Fits 0 list None j u
+    lock_fits j u is = subst (λ (y : ℕ × View). Fits 0 list None y.0 y.1) (λ i. (sym is.0 i, sym is.1 i))
+        (record { pen = λ _. (refl, none); begun = λ _. refl; front = (list, refl); olds = All-nil _; mine = λ k. absurd (cc); knows = λ k. absurd (cc) })
 
     zero_sits : (j : ℕ) (u : View) → SitsAt (lock_view ∷ session_view 0 [] ∷ []) j u → (j ≡ 1) × (u ≡ session_view 0 [])
     zero_sits j u sits = each_more (λ i x. x.kind ≡ kind.Session → (i ≡ 1) × (x ≡ session_view 0 [])) (lock_view ∷ []) (session_view 0 [])
@@ -368,6 +429,7 @@ pub keeps : (base : ℕ) (step : Step) (old new : Standing) (h : OneHistory base
 keeps base (opens by) old new h m = subst (λ s. Grown base h.list s) (sym m.1) (opening base old h by m.0)
 keeps base (loads by) old new h m = subst (λ s. Grown base h.list s) (sym m.3) (loading base old h)
 keeps base (adds by e) old new h m = subst (λ s. Grown base h.list s) (sym m.5) (adding base old h by m.0 e m.1 m.2 m.3)
+keeps base (tries by e) old new h m = subst (λ s. Grown base h.list s) (sym m.4) (trying base old h by m.0 e m.1 m.2 m.3)
 keeps base (notes by) old new h m = subst (λ s. Grown base h.list s) (sym m.3) (noting_if base old h by m.0 m.0.pen refl m.1 m.2)
 keeps base (notes_plainly by) old new h m = subst (λ s. Grown base h.list s) (sym m.3) (noting_plainly base old h by m.0 m.1 m.2)
 keeps base (meets by other) old new h m =
@@ -378,6 +440,7 @@ keeps base (makes by) old new h m = subst (λ s. Grown base h.list s) (sym m.4) 
 pub starts : (base : ℕ) → OneHistory base (standing base (unopened_view ∷ []))
 starts base = record {
   list = [];
+  begun = None;
   word = omega arith;
   holder = 0;
   held = (unopened_view, refl, refl);
@@ -390,8 +453,9 @@ starts base = record {
   opened = inl refl;
 }
   where
-    first_fits : (j : ℕ) (u : View) → (j ≡ 0) × (u ≡ unopened_view) → Fits 0 [] j u
-    first_fits j u is = subst (λ (y : ℕ × View). Fits 0 [] y.0 y.1) (λ i. (sym is.0 i, sym is.1 i)) (record { pen = λ _. (refl, refl); front = ([], refl); olds = All-nil _; mine = λ k. absurd (cc) })
+    first_fits : (j : ℕ) (u : View) → (j ≡ 0) × (u ≡ unopened_view) → Fits 0 [] None j u
+    first_fits j u is = subst (λ (y : ℕ × View). Fits 0 [] None y.0 y.1) (λ i. (sym is.0 i, sym is.1 i))
+        (record { pen = λ _. (refl, refl); begun = λ _. refl; front = ([], refl); olds = All-nil _; mine = λ k. absurd (cc); knows = λ k. absurd (cc) })
 
     none : (j : ℕ) (u : View) → SitsAt (unopened_view ∷ []) j u → ⊥
     none j u sits = let k = ap (λ y. y.kind) (only_view unopened_view u j sits.0).1 in let s = sits.1 in absurd (cc)

@@ -1,5 +1,5 @@
 -- What the table asks of each call: its step keeps the table's rule, and tells what it is to tell.
-use Rattle.std.proofs.Common.{◌≡◌, ◌+◌, ◌<◌, ◌≤◌, ◌%◌, ◌^◌, ◌∷◌, ◌++◌, [], ℕ, All, true, length, set, refl, sym, ap, ◌∙◌, subst, arith}
+use Rattle.std.proofs.Common.{◌≡◌, ◌+◌, ◌<◌, ◌≤◌, ◌%◌, ◌^◌, ◌∷◌, ◌++◌, [], ℕ, All, Option, true, length, set, refl, sym, ap, ◌∙◌, subst, arith}
 use Rattle.std.specs.Prelude.{slice_index}
 use Rattle.std.proofs.Math.Nat.{mod-eq_of_lt}
 use Rattle.atomic_table.proofs.Lists.{set_again, set_else}
@@ -9,9 +9,9 @@ use Rattle.mt_values.specs.declared.command.Entry.{Entry}
 use Rattle.history_seat.specs.declared.view.Kind.TheVariants as kind
 use Rattle.history_seat.specs.declared.view.View.{View}
 use Rattle.history_seat.specs.Rule.{Has, OneHistory, Rule, Standing, standing}
-use Rattle.history_seat.specs.Steps.{Makes, Step, adds, makes, meets, notes, notes_plainly, opens}
-use Rattle.history_seat.specs.Turns.{Adds, Learned}
-use Rattle.history_seat.specs.Views.{counted, grown, is_seat, lock_view, met, newcomer, note_of, own, plain_note_of, session_view, spent_view, unopened_view, without_pen}
+use Rattle.history_seat.specs.Steps.{Makes, Step, adds, makes, meets, notes, notes_plainly, opens, tries}
+use Rattle.history_seat.specs.Turns.{Adds, Learned, Tries}
+use Rattle.history_seat.specs.Views.{KnowsBegun, counted, grown, is_seat, lock_view, met, newcomer, note_of, own, plain_note_of, session_view, spent_view, unopened_view, with_try, without_pen}
 use Rattle.history_seat.proofs.Keeping.{starts}
 use Rattle.history_seat.proofs.Lasting.{step_keeps}
 
@@ -34,6 +34,7 @@ learned base s h by v at =
       word = λ pen. h.word ∙ ap (λ l. base + length l) (sym (mine.pen pen).1);
       mine = λ pen k. mine.mine k ∙ ap (λ l. own v.number l) (sym (mine.pen pen).1);
       named = λ pen k zeroth. subst (λ l. All (λ (e : Entry). e.session ≤ v.made) l) (sym (mine.pen pen).1) (h.numbered.named by v (at, k) zeroth);
+      knows = λ pen k. subst (λ (b : Option Entry). KnowsBegun v b) (sym (mine.begun pen)) (mine.knows k);
     }
 
 pub may_load : (base slots by : ℕ) (me : Me ℕ View) → Allows (Ruled base) slots by me 0 (λ n. n) (λ n next. (next ≡ me) × Learned base me.0 n)
@@ -69,6 +70,23 @@ may_add base slots by me e session named pen room s kept homes at fits =
         step_keeps base (adds by e) old new kept.2 (v, (at, session), named, pen, room, refl),
       ),
       (refl, refl, mine.olds),
+    )
+
+pub may_try : (base slots by : ℕ) (me : Me ℕ View) (e : Entry) → me.0.kind ≡ kind.Session → e.session ≡ me.0.number → me.0.pen ≡ true
+    → Allows (Ruled base) slots by me 0 (λ n. n) (λ _ next. Tries e me next)
+may_try base slots by me e session named pen s kept homes at fits =
+    let found : slice_index s.words 0 ≡ kept.0 = ap (λ ws. slice_index ws 0) kept.1 in
+    let old = standing kept.0 s.views in
+    let new = standing kept.0 (set s.views by (with_try me.0 e)) in (
+      with_try me.0 e,
+      keeps,
+      tt,
+      (
+        kept.0,
+        ap (λ ws. set ws 0 (slice_index s.words 0)) kept.1 ∙ ap (λ n. n ∷ []) found,
+        step_keeps base (tries by e) old new kept.2 (me.0, (at, session), named, pen, refl),
+      ),
+      (refl, refl),
     )
 
 -- a split that is one of the steps

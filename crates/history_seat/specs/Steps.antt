@@ -4,13 +4,15 @@ use Rattle.mt_values.specs.declared.command.Entry.{Entry}
 use Rattle.history_seat.specs.declared.view.Kind.TheVariants as kind
 use Rattle.history_seat.specs.declared.view.View.{View}
 use Rattle.history_seat.specs.Rule.{Has, SitsAt, Standing, standing}
-use Rattle.history_seat.specs.Views.{Begins, counted, grown, is_seat, lock_view, met, newcomer, note_of, plain_note_of, session_view, spent_view, unopened_view, without_pen}
+use Rattle.history_seat.specs.Views.{Begins, counted, grown, is_seat, lock_view, met, newcomer, note_of, plain_note_of, session_view, spent_view, unopened_view, with_try, without_pen}
 
--- What the seat at a place does: it opens the history, loads the word, adds an entry, makes a note with its pen or without, takes in the note at another place, makes a session (docs/history.md, "The steps")
+-- What the seat at a place does: it opens the history, loads the word, adds an entry, tries one whose commit failed, makes a note with its pen or without, takes in the note at another place, makes a
+-- session (docs/history.md, "The steps")
 pub data Step : Type 0 where
   opens : ℕ → Step
   loads : ℕ → Step
   adds : ℕ → Entry → Step
+  tries : ℕ → Entry → Step
   notes : ℕ → Step
   notes_plainly : ℕ → Step
   meets : ℕ → ℕ → Step
@@ -25,6 +27,8 @@ Makes base (loads by) old new =
 Makes base (adds by e) old new =
     (v : View) × SitsAt old.views by v × (e.session ≡ v.number) × (v.pen ≡ true) × (base + length v.list + 1 < 2 ^ 64)
     × (new ≡ standing (old.word + 1) (slice_set old.views by (grown v e)))
+Makes base (tries by e) old new =
+    (v : View) × SitsAt old.views by v × (e.session ≡ v.number) × (v.pen ≡ true) × (new ≡ standing old.word (slice_set old.views by (with_try v e)))
 Makes base (notes by) old new =
     (v : View) × Has old.views by v × (is_seat v.kind ≡ true)
     × (new ≡ standing old.word (slice_set old.views by (without_pen v) ++ note_of v ∷ []))

@@ -1,5 +1,5 @@
 -- What seats and notes know, and what each step makes of it (docs/history.md, "Seats and notes").
-use Rattle.std.specs.Prelude.{◌≡◌, ◌+◌, ◌==◌, ◌∷◌, ◌++◌, [], ℕ, Bool, true, false, List, cond, filter, length, nat_lt}
+use Rattle.std.specs.Prelude.{◌≡◌, ◌+◌, ◌≤◌, ◌==◌, ◌∷◌, ◌++◌, [], ℕ, Bool, true, false, List, Option, None, Some, IfSome, cond, filter, length, nat_lt}
 use Rattle.atomic_table.specs.Seated.{TableId}
 use Rattle.mt_base.specs.declared.partition.Partition.TheVariants as partition
 use Rattle.mt_values.specs.declared.command.Command.TheVariants as command
@@ -16,6 +16,10 @@ Begins front list = (rest : List Entry) × (front ++ rest ≡ list)
 abbrev pub own : ℕ → List Entry → List Entry
 own number list = filter (λ e. e.session == number) list
 
+-- What a session knows of what is begun: where it has the session's number, it is what the session tried last; and session 0 made whoever tried it (docs/history.md, "What is begun")
+abbrev pub KnowsBegun : View → Option Entry → Type 0
+KnowsBegun v begun = IfSome begun (λ e. (e.session ≡ v.number → v.tried ≡ Some e) × (v.number ≡ 0 → e.session ≤ v.made))
+
 -- the view is that of a seat: of the lock's, or of a session's (docs/history.md, "Seats and notes")
 abbrev pub is_seat : Kind → Bool
 is_seat kind.Unopened = false
@@ -25,35 +29,35 @@ is_seat kind.Note = false
 
 -- the one view of a history that was not opened yet: it has the pen (docs/history.md, "The opening")
 abbrev pub unopened_view : View
-unopened_view = record { kind = kind.Unopened; list = []; olds = []; mine = []; number = 0; made = 0; pen = true }
+unopened_view = record { kind = kind.Unopened; list = []; olds = []; mine = []; tried = None; begun = None; number = 0; made = 0; pen = true }
 
 -- the lock's seat as it is made: it has the pen (docs/history.md, "The opening")
 abbrev pub lock_view : View
-lock_view = record { kind = kind.Lock; list = []; olds = []; mine = []; number = 0; made = 0; pen = true }
+lock_view = record { kind = kind.Lock; list = []; olds = []; mine = []; tried = None; begun = None; number = 0; made = 0; pen = true }
 
--- a session that has added nothing and made no other one, and knows this list (docs/history.md, "Seats and notes")
+-- a session that has added and tried nothing and made no other one, and knows this list (docs/history.md, "Seats and notes")
 abbrev pub session_view : ℕ → List Entry → View
-session_view number list = record { kind = kind.Session; list = list; olds = []; mine = []; number = number; made = 0; pen = false }
+session_view number list = record { kind = kind.Session; list = list; olds = []; mine = []; tried = None; begun = None; number = number; made = 0; pen = false }
 
--- a note of this list, with the pen or without it (docs/history.md, "Seats and notes")
-abbrev pub note_view : List Entry → Bool → View
-note_view list pen = record { kind = kind.Note; list = list; olds = []; mine = []; number = 0; made = 0; pen = pen }
+-- a note of this list and of what is begun, with the pen or without it (docs/history.md, "Seats and notes")
+abbrev pub note_view : List Entry → Option Entry → Bool → View
+note_view list begun pen = record { kind = kind.Note; list = list; olds = []; mine = []; tried = None; begun = begun; number = 0; made = 0; pen = pen }
 
 -- what is left of a note that was taken in (docs/history.md, "Seats and notes")
 abbrev pub spent_view : View
-spent_view = note_view [] false
+spent_view = note_view [] None false
 
 -- what a seat knows, once its pen went with a note (docs/history.md, "The steps")
 abbrev pub without_pen : View → View
-without_pen v = record { kind = v.kind; list = v.list; olds = v.olds; mine = v.mine; number = v.number; made = v.made; pen = false }
+without_pen v = record { kind = v.kind; list = v.list; olds = v.olds; mine = v.mine; tried = v.tried; begun = v.begun; number = v.number; made = v.made; pen = false }
 
 -- a note of what a seat knows, with the pen where the seat has it (docs/history.md, "The steps")
 abbrev pub note_of : View → View
-note_of v = note_view v.list v.pen
+note_of v = note_view v.list v.begun v.pen
 
 -- a note of what a seat knows, without the pen (docs/history.md, "The steps")
 abbrev pub plain_note_of : View → View
-plain_note_of v = note_view v.list false
+plain_note_of v = note_view v.list v.begun false
 
 -- the longer of two lists, the first where they are of one length
 abbrev pub longer : List Entry → List Entry → List Entry
@@ -63,17 +67,35 @@ longer xs ys = cond (nat_lt (length xs) (length ys)) ys xs
 abbrev pub leading : Bool → Bool → List Entry → List Entry → List Entry
 leading pen other xs ys = cond pen xs (cond other ys (longer xs ys))
 
+-- what is begun, by the one of the two that has the pen, or else by the first (docs/history.md, "The steps")
+abbrev pub begun_of : Bool → Bool → Option Entry → Option Entry → Option Entry
+begun_of pen other x y = cond pen x (cond other y x)
+
 -- what a seat knows, once it took a note in (docs/history.md, "The steps")
 abbrev pub met : View → View → View
-met v w = record { kind = v.kind; list = leading v.pen w.pen v.list w.list; olds = v.list ∷ w.list ∷ v.olds; mine = v.mine; number = v.number; made = v.made; pen = cond v.pen true w.pen }
+met v w = record {
+  kind = v.kind;
+  list = leading v.pen w.pen v.list w.list;
+  olds = v.list ∷ w.list ∷ v.olds;
+  mine = v.mine;
+  tried = v.tried;
+  begun = begun_of v.pen w.pen v.begun w.begun;
+  number = v.number;
+  made = v.made;
+  pen = cond v.pen true w.pen;
+}
 
--- what a session knows, once it added an entry (docs/history.md, "The steps")
+-- what a session knows, once it added an entry: none is begun (docs/history.md, "The steps")
 abbrev pub grown : View → Entry → View
-grown v e = record { kind = v.kind; list = v.list ++ e ∷ []; olds = v.olds; mine = v.mine ++ e ∷ []; number = v.number; made = v.made; pen = v.pen }
+grown v e = record { kind = v.kind; list = v.list ++ e ∷ []; olds = v.olds; mine = v.mine ++ e ∷ []; tried = None; begun = None; number = v.number; made = v.made; pen = v.pen }
+
+-- what a session knows, once it tried an entry, which is begun (docs/history.md, "The steps")
+abbrev pub with_try : View → Entry → View
+with_try v e = record { kind = v.kind; list = v.list; olds = v.olds; mine = v.mine; tried = Some e; begun = Some e; number = v.number; made = v.made; pen = v.pen }
 
 -- what session 0 knows, once it made one session more (docs/history.md, "The steps")
 abbrev pub counted : View → View
-counted v = record { kind = v.kind; list = v.list; olds = v.olds; mine = v.mine; number = v.number; made = v.made + 1; pen = v.pen }
+counted v = record { kind = v.kind; list = v.list; olds = v.olds; mine = v.mine; tried = v.tried; begun = v.begun; number = v.number; made = v.made + 1; pen = v.pen }
 
 -- the session that session 0 makes (docs/history.md, "The steps")
 abbrev pub newcomer : View → View

@@ -10,12 +10,15 @@ ghost use Rattle.history_seat.specs.Views.{
   newcomer,
   note_of,
   plain_note_of,
+  with_try,
   without_pen,
 };
 
 use crate::room::Room;
 use crate::seat::{Note, Seat};
-use crate::steps::{Adding, Entered, Learning, Making, Meeting, Noting, NotingPlainly, Word};
+use crate::steps::{
+    Adding, Entered, Learning, Making, Meeting, Noting, NotingPlainly, Trying, Word,
+};
 use std::marker::PhantomData;
 
 /// A history's word, which all threads share. No call waits, takes memory or can fail.
@@ -58,6 +61,16 @@ impl<B: Room> History<B> {
         self.word
             .shared
             .fetch_add::<Adding<T>>(&mut seat.place, 0, 1);
+    }
+
+    /// Says that the session that has the pen tried an entry, which is begun, since its commit failed. The word stays.
+    pub(crate) fn set_try<T: Entered>(&self, seat: &mut Seat<B>)
+        requires session { seat.old.kind ≡ kind.Session }
+        requires named { T.entry.session ≡ seat.old.number }
+        requires pen { seat.old.pen ≡ true }
+        ensures { seat.new ≡ with_try seat.old T.entry }
+    {
+        self.word.shared.load::<Trying<T>>(&mut seat.place, 0);
     }
 
     /// A note of what the seat knows. The pen goes with it, where the seat has it.

@@ -20,7 +20,8 @@ impl TableRule<u8, View, u64> for OneList {
 /// A table with one word. It has no slots, and its key is the base.
 pub(crate) type Word = Table<u8, View, u64, OneList, Global>;
 
-/// Which entry a call adds. A caller picks it for `Brand`, so the entry itself may be elsewhere by then, as in the annals.
+/// Which entry a call adds, or says was tried. A caller picks it for `Brand`, so the entry itself may be elsewhere by then, as in the
+/// annals.
 pub trait Entered {
     ghost use Rattle.mt_values.specs.declared.command.Entry.{Entry};
 
@@ -53,6 +54,16 @@ impl<T: Entered> Play<u8, View> for Adding<T> {
     ghost use Rattle.history_seat.specs.Turns.{Adds};
 
     ghost then = { λ _ me _ next. Adds T.entry me next };
+}
+
+pub(crate) struct Trying<T: Entered> {
+    of: PhantomData<T>,
+}
+
+impl<T: Entered> Play<u8, View> for Trying<T> {
+    ghost use Rattle.history_seat.specs.Turns.{Tries};
+
+    ghost then = { λ _ me _ next. Tries T.entry me next };
 }
 
 pub(crate) struct Noting;

@@ -100,13 +100,23 @@ fn add_in_a_turn<B: Room>(
     Some(history.add::<Brand>(lock, seat))
 }
 
+/// A turn in which an entry of the session was tried, and its commit failed.
+fn try_in_a_turn<B: Room>(history: &History<B>, lock: &mut Seat<B>, seat: &mut Seat<B>) -> u64
+    requires lock { IsLock lock.old }
+    requires session { IsSession seat.old }
+    ensures lock { IsLock lock.new }
+    ensures session { IsSession seat.new }
+{
+    history.record_try::<Brand>(lock, seat)
+}
+
 /// A step of each kind but the opening and the making of sessions. What the word was found to be is answered.
 fn all_kinds<B: Room>(
     history: &History<B>,
     lock: &mut Seat<B>,
     seat: &mut Seat<B>,
     other: &mut Seat<B>,
-) -> Option<[u64; 6]>
+) -> Option<[u64; 7]>
     requires lock { IsLock lock.old }
     requires sessions { IsSession seat.old × IsSession other.old }
 {
@@ -116,15 +126,16 @@ fn all_kinds<B: Room>(
     let work = history.plain_note(lock);
     let note = history.note(seat);
     history.meet(other, note);
+    let tried = try_in_a_turn(history, lock, seat);
     let added = add_in_a_turn(history, lock, other)?;
     history.take_in(lock, work);
     let looked = history.look(lock, seat);
     let last = history.length(lock);
-    Some([begun, before, after, added, looked, last])
+    Some([begun, before, after, tried, added, looked, last])
 }
 
 /// Two sessions of one history, of which the first or the second begins. Their numbers, and what they found.
-fn in_order<B: Room>(blank: Blank, swapped: bool) -> ([u64; 3], Option<[u64; 6]>)
+fn in_order<B: Room>(blank: Blank, swapped: bool) -> ([u64; 3], Option<[u64; 7]>)
     requires { blank ≡ name B.table (length B.before) }
 {
     let Opened {
@@ -147,7 +158,7 @@ fn from_base(
     alloc: Global,
     base: u64,
     swapped: bool,
-) -> Result<([u64; 3], Option<[u64; 6]>), NoMemory> {
+) -> Result<([u64; 3], Option<[u64; 7]>), NoMemory> {
     let blank = Blank::new(alloc, base)?;
     Ok(in_order::<Brand>(blank, swapped))
 }
@@ -158,7 +169,7 @@ fn two_sessions_go_through_all_kinds_in_two_orders(rt: HostRuntime) -> Result<()
     for swapped in [false, true] {
         let (numbers, words) = from_base(alloc, 7, swapped)?;
         assert_eq!(rt; numbers, [1, 2, 2]);
-        assert!(rt; words == Some([7, 7, 8, 9, 9, 9]));
+        assert!(rt; words == Some([7, 7, 8, 8, 9, 9, 9]));
     }
     Ok(())
 }
@@ -172,7 +183,7 @@ fn a_word_at_its_last_number_has_no_room(rt: HostRuntime) -> Result<(), Fail> {
     assert!(rt; one.is_none());
     let last = u64::MAX;
     let (_, two) = from_base(alloc, u64::MAX - 2, false)?;
-    assert!(rt; two == Some([last - 2, last - 2, last - 1, last, last, last]));
+    assert!(rt; two == Some([last - 2, last - 2, last - 1, last - 1, last, last, last]));
     Ok(())
 }
 

@@ -23,6 +23,11 @@ pub struct View {
     pub olds: LinkedList<LinkedList<Entry>>,
     /// The entries that the session added.
     pub mine: LinkedList<Entry>,
+    /// The entry that the session tried last, where its commit failed and the session added none since.
+    pub tried: Option<Entry>,
+    /// Of who has the pen: the entry that is begun, since a session tried it, its commit failed, and none was added since. Of
+    /// others: what it was when they had the pen.
+    pub begun: Option<Entry>,
     /// The session's number; 0 also of what is no session.
     pub number: u64,
     /// How many sessions session 0 has made; 0 of all others.
