@@ -1,5 +1,5 @@
 -- Values at places of a column written one after the other, granule by granule.
-use Rattle.std.proofs.Common.{Result, Ok, Err, IfOk, ◌≡◌, ℕ, zero, suc, ◌+◌, ◌*◌, ◌<◌, ◌≤◌, ◌⊎◌, inl, inr, min, List, [], ◌∷◌, ◌++◌, Some, refl, sym, ap, ap₂, ◌∙◌, subst, length, length-append, length-drop, map, get_or, take, drop, slice_get, filter_map, All, arith, append-nil, append_assoc, mul-le-mul_right, mul_comm, mul-zero, suc-mul, zero-add}
+use Rattle.std.proofs.Common.{Result, Ok, Err, IfOk, ◌≡◌, ℕ, zero, suc, ◌+◌, ◌*◌, ◌<◌, ◌≤◌, ◌⊎◌, inl, inr, min, List, [], ◌∷◌, ◌++◌, Some, refl, sym, ap, ap₂, ◌∙◌, subst, length, length-append, length-drop, map, get_or, take, drop, slice_get, filter_map, All, arith, append-nil, append_assoc, mul_comm, mul-zero, zero-add}
 use Rattle.std.specs.Int.{div_ceil}
 use Rattle.std.specs.List.{range_with_len, cons_option}
 use Rattle.std.proofs.Math.Seq.{take-add}
@@ -18,6 +18,7 @@ use Rattle.mt_values.specs.Grid.{AreOfType, AreRowsOf, Cells, column_of, picked}
 use Rattle.mt_values.specs.Values.{FitsType, Row, type_of}
 use Rattle.mt_values.proofs.Grids.{column_of-picked, filter_map_more}
 use Rattle.mt_values.proofs.OrderBy.{all_reach}
+use Rattle.mt_values.proofs.Covers.{same_count}
 use Rattle.column_file.specs.declared.encoding.ColumnBytes.{ColumnBytes}
 use Rattle.column_file.specs.Granules.{granule_start, marks_of}
 use Rattle.column_file.specs.Spellings.{IsSpelling}
@@ -170,20 +171,6 @@ granule_within values places granularity bytes marks rest granule left w parted 
     let these : drop (granularity * length marks) places ≡ granule ++ left = sym w.left ∙ parted in
     let first = All-take (λ place. place < length values) (length granule) (granule ++ left) (subst (AreWithin values) these behind) in
     subst (AreWithin values) (take_at granule left (length granule) refl) first
-
--- a number of granules that cover the values, the last of them begun, is the one number of them
-pub same_count : (a b m n : ℕ) → a ≤ m * b → m * b < a + b → a ≤ n * b → n * b < a + b → m ≡ n
-same_count a b m n p q r s = either (cases_lt m n) (cases_lt n m)
-  where
-    less : (x y : ℕ) → x < y → a ≤ x * b → y * b < a + b → ⊥
-    less x y h low high =
-        let room : suc x * b ≤ y * b = mul-le-mul_right b h in
-        omega (arith, suc-mul x b)
-
-    either : (m < n) ⊎ (n ≤ m) → (n < m) ⊎ (m ≤ n) → m ≡ n
-    either (inl h) other = absurd (less m n h p s)
-    either (inr h) (inl g) = absurd (less n m g r q)
-    either (inr h) (inr g) = omega arith
 
 -- all granules are written
 pub written_all : (values : List Value) (places : List ℕ) (granularity : ℕ) (bytes marks rest more : List ℕ) → AreWritten values places granularity bytes marks rest → length rest ≡ 0 → AreWithin values places → 0 < granularity → more ≡ marks ++ length bytes ∷ [] → (bytes ≡ column_bytes (values_at values places)) × (more ≡ marks_of granularity (values_at values places)) × All FitsType (values_at values places)

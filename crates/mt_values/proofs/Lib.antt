@@ -1,5 +1,6 @@
 pub mod Bounds
 pub mod Columns
+pub mod Covers
 pub mod DigitNumbers
 pub mod Fronts
 pub mod Grids
@@ -17,8 +18,10 @@ pub mod RowBounds
 pub mod RowPartitions
 pub mod RowValueAt
 pub mod RowValues
+pub mod SameTypes
 pub mod ScriptBounds
 pub mod Searches
+pub mod SetItems
 pub mod SortingPlaces
 pub mod Texts
 pub mod TokenBounds

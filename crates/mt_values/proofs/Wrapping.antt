@@ -1,5 +1,5 @@
 -- Sums that wrap: to wrap on the way changes nothing.
-use Rattle.std.proofs.Common.{◌≡◌, ℕ, suc, ◌+◌, ◌*◌, ◌%◌, ◌<◌, refl, sym, ap, ◌∙◌, arith, ℤ, pos, negsuc, ◌+ℤ◌, unsigned_abs, w8, w16, w32, w64}
+use Rattle.std.proofs.Common.{◌≡◌, ℕ, suc, ◌+◌, ◌*◌, ◌%◌, ◌<◌, Bool, true, false, cond, nat_eq, refl, sym, ap, ◌∙◌, arith, ℤ, pos, negsuc, ◌+ℤ◌, ◌-ℤ◌, unsigned_abs, w8, w16, w32, w64}
 use Rattle.std.proofs.Math.IntN.{+ℤ_assoc, +ℤ_comm, +ℤ_idr}
 use Rattle.std.proofs.Math.Nat.{add-mul, add_comm, mod-add-mod, mul-suc}
 use Rattle.std.proofs.lemmas.Int.{int_rem_euclid_is, int_wrap-add_left, ints}
@@ -8,7 +8,8 @@ use Rattle.mt_values.specs.declared.value.ColType.{ColType}
 use Rattle.mt_values.specs.declared.value.ColType.TheVariants as type
 use Rattle.mt_values.specs.declared.value.Value.{Value}
 use Rattle.mt_values.specs.declared.value.Value.TheVariants as value
-use Rattle.mt_values.specs.Sums.{integer_of, low_bits, wrapped_as}
+use Rattle.mt_values.specs.Order.{rank_of}
+use Rattle.mt_values.specs.Sums.{integer_of, less, low_bits, plus, wrapped_as}
 use Rattle.mt_values.specs.Values.{type_of}
 
 -- ---- the lowest bits of a sum
@@ -107,6 +108,21 @@ wrapped_type (value.Int16 n) z = refl
 wrapped_type (value.Int32 n) z = refl
 wrapped_type (value.Int64 n) z = refl
 wrapped_type (value.Text bytes) z = refl
+
+-- so is a sum of the type of the value to which it adds, and what is taken away changes none
+pub plus_type : (v w : Value) → type_of (plus v w) ≡ type_of v
+plus_type v w = by (nat_eq (rank_of v) (rank_of w))
+  where
+    by : (b : Bool) → type_of (cond b (wrapped_as v (integer_of v +ℤ integer_of w)) v) ≡ type_of v
+    by true = wrapped_type v (integer_of v +ℤ integer_of w)
+    by false = refl
+
+pub less_type : (v w : Value) → type_of (less v w) ≡ type_of v
+less_type v w = by (nat_eq (rank_of v) (rank_of w))
+  where
+    by : (b : Bool) → type_of (cond b (wrapped_as v (integer_of v -ℤ integer_of w)) v) ≡ type_of v
+    by true = wrapped_type v (integer_of v -ℤ integer_of w)
+    by false = refl
 
 -- what a value was does not matter
 pub wrapped_twice : (v : Value) (a b : ℤ) → wrapped_as (wrapped_as v a) b ≡ wrapped_as v b

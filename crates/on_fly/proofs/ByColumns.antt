@@ -1,7 +1,6 @@
 -- What changes make of rows that are kept by columns.
-use Rattle.std.proofs.Common.{◌≡◌, ◌≢◌, ◌⊎◌, ℕ, zero, suc, ◌+◌, ◌<◌, ◌≤◌, Bool, true, false, cond, not, nat_eq, List, [], ◌∷◌, ◌++◌, ◌+ℤ◌, ◌-ℤ◌, length, map, filter, filter_map, get_or, take, All, IfSome, Option, None, Some, option_map, slice_get, set, fold, refl, sym, ap, ap₂, ◌∙◌, subst, subst₂, inl, inr, arith, zero-add, append-nil}
+use Rattle.std.proofs.Common.{◌≡◌, ◌≢◌, ◌⊎◌, ℕ, suc, ◌+◌, ◌<◌, ◌≤◌, Bool, true, false, cond, not, nat_eq, List, [], ◌∷◌, ◌++◌, length, map, filter, filter_map, get_or, take, All, IfSome, Option, None, Some, option_map, slice_get, set, fold, refl, sym, ap, ap₂, ◌∙◌, subst, subst₂, inl, inr, arith, zero-add, append-nil}
 use Rattle.std.specs.List.{cons_option, range_with_len}
-use Rattle.std.proofs.Math.ListN.{length-set}
 use Rattle.std.proofs.lemmas.Bool.{eq-eqb, eqb-true}
 use Rattle.std.proofs.lemmas.Bool.Decides.{eqb_tells}
 use Rattle.std.proofs.lemmas.List.{get_or-map, get_or_default, length-map, length-take-le}
@@ -21,13 +20,13 @@ use Rattle.mt_values.specs.declared.value.Value.TheVariants as value
 use Rattle.mt_values.specs.Changes.{changed, mutated, updated, value_for, with_value}
 use Rattle.mt_values.specs.Conditions.{Condition}
 use Rattle.mt_values.specs.Grid.{AreRowsOf, Cells, Grid, column_of, grid_of, picked}
-use Rattle.mt_values.specs.Order.{rank_of}
-use Rattle.mt_values.specs.Sums.{integer_of, less, plus, wrapped_as}
+use Rattle.mt_values.specs.Sums.{less, plus}
 use Rattle.mt_values.specs.Tests.{eval}
 use Rattle.mt_values.specs.Values.{Row, type_of, types_of}
 use Rattle.mt_values.proofs.Grids.{All-range, AreEven, AreEven-columns_from, HaveLength, columns_from, filter_map_more, lengths_typed, range_more, rows_of-columns_from, type_at, types-columns_from}
 use Rattle.mt_values.proofs.OrderBy.{value_at}
-use Rattle.mt_values.proofs.Wrapping.{wrapped_type}
+use Rattle.mt_values.proofs.SetItems.{put_apart, put_length, set_there}
+use Rattle.mt_values.proofs.Wrapping.{less_type, plus_type}
 use Rattle.on_fly.specs.Updates.{FitsColumn, HasType, IsOfTypes, last_assigned, places_unmet, put_value, updated_if}
 use Rattle.on_fly.proofs.Steps.{fold_more, mutated_more}
 
@@ -148,26 +147,6 @@ last_fits types place puts x all is = subst (λ (o : Option Assigned). IfSome o 
 
 -- ---- values of a row
 
-set_apart : (xs : Row) (i j : ℕ) (v : Value) → (i ≡ j → ⊥) → slice_get (set xs i v) j ≡ slice_get xs j
-set_apart [] i j v apart = refl
-set_apart (x ∷ xs) zero zero v apart = absurd (apart refl)
-set_apart (x ∷ xs) zero (suc j) v apart = refl
-set_apart (x ∷ xs) (suc i) zero v apart = refl
-set_apart (x ∷ xs) (suc i) (suc j) v apart = set_apart xs i j v (λ e. apart (ap suc e))
-
-set_there : (xs : Row) (i : ℕ) (v : Value) → i < length xs → slice_get (set xs i v) i ≡ Some v
-set_there [] i v below = absurd (omega (arith, below))
-set_there (x ∷ xs) zero v below = refl
-set_there (x ∷ xs) (suc i) v below = set_there xs i v (omega (arith, below))
-
-put_apart : (row : Row) (i j : ℕ) (o : Option Value) → (i ≡ j → ⊥) → slice_get (with_value row i o) j ≡ slice_get row j
-put_apart row i j None apart = refl
-put_apart row i j (Some v) apart = set_apart row i j v apart
-
-put_length : (row : Row) (i : ℕ) (o : Option Value) → length (with_value row i o) ≡ length row
-put_length row i None = refl
-put_length row i (Some v) = length-set row i v
-
 -- a column that is read is there
 pub column_there : (types : List ColType) (x : Assigned) (source : ℕ) → ((t : ColType) × HasType types t x) → x ≡ assigned.Column source → source < length types
 column_there types x source has is = slice_get_within types source has.0 (subst (HasType types has.0) is has.1)
@@ -177,20 +156,6 @@ plus_there types x source number has is = slice_get_within types source has.0 (s
 
 pub minus_there : (types : List ColType) (x : Assigned) (source : ℕ) (number : Value) → ((t : ColType) × HasType types t x) → x ≡ assigned.Minus source number → source < length types
 minus_there types x source number has is = slice_get_within types source has.0 (subst (HasType types has.0) is has.1)
-
-plus_type : (v w : Value) → type_of (plus v w) ≡ type_of v
-plus_type v w = by (nat_eq (rank_of v) (rank_of w))
-  where
-    by : (b : Bool) → type_of (cond b (wrapped_as v (integer_of v +ℤ integer_of w)) v) ≡ type_of v
-    by true = wrapped_type v (integer_of v +ℤ integer_of w)
-    by false = refl
-
-less_type : (v w : Value) → type_of (less v w) ≡ type_of v
-less_type v w = by (nat_eq (rank_of v) (rank_of w))
-  where
-    by : (b : Bool) → type_of (cond b (wrapped_as v (integer_of v -ℤ integer_of w)) v) ≡ type_of v
-    by true = wrapped_type v (integer_of v -ℤ integer_of w)
-    by false = refl
 
 -- the value of a column that was assigned this last, or nothing
 abbrev read_last : Row → ℕ → Option Assigned → Option Value

@@ -93,7 +93,7 @@ all_later n c cs (m ∷ ms) all =
     let place : m.number - n ≡ suc (m.number - (n + 1)) = omega (arith, from) in
     (record { from = omega (arith, from); alter = all.0.alter; there = ap (slice_get (c ∷ cs)) place ∙ all.0.there }, all_later n c cs ms all.1)
 
-numbers_among : (n : ℕ) (cs : List Command) → AllByRecursion (StandsAmong n cs) (mutations_among n cs)
+pub numbers_among : (n : ℕ) (cs : List Command) → AllByRecursion (StandsAmong n cs) (mutations_among n cs)
 numbers_among n [] = tt
 numbers_among n (command.Create c ∷ cs) = all_later n (command.Create c) cs (mutations_among (n + 1) cs) (numbers_among (n + 1) cs)
 numbers_among n (command.Insert i ∷ cs) = all_later n (command.Insert i) cs (mutations_among (n + 1) cs) (numbers_among (n + 1) cs)

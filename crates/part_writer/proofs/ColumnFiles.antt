@@ -10,6 +10,7 @@ use Rattle.mt_base.specs.declared.name.FileId.TheVariants as file
 use Rattle.mt_outside.specs.Files.{appended}
 use Rattle.mt_values.specs.declared.schema.Column.{Column}
 use Rattle.mt_values.specs.declared.schema.Schema.{Schema}
+use Rattle.mt_values.proofs.SetItems.{set_apart, set_there}
 use Rattle.mt_values.specs.declared.value.Value.{Value}
 use Rattle.mt_values.specs.ColumnBytes.{column_bytes}
 use Rattle.mt_values.specs.Grid.{AreRowsOf, column_of}
@@ -56,21 +57,6 @@ file_more g values more column new bytes end whole one few are has holds ends pl
           ∙ sym (marks_more g values more whole one few);
     }
 
--- ---- lists in which one item changes
-
-module _ {X : Type 0} where
-  pub get_changed : (xs : List X) (n : ℕ) (y : X) → n < length xs → slice_get (set xs n y) n ≡ Some y
-  get_changed [] n y below = absurd (omega (arith, below))
-  get_changed (x ∷ xs) zero y below = refl
-  get_changed (x ∷ xs) (suc n) y below = get_changed xs n y (omega (arith, below))
-
-  pub get_others : (xs : List X) (n k : ℕ) (y : X) → n ≢ k → slice_get (set xs n y) k ≡ slice_get xs k
-  get_others [] n k y other = refl
-  get_others (x ∷ xs) zero zero y other = absurd (other refl)
-  get_others (x ∷ xs) zero (suc k) y other = refl
-  get_others (x ∷ xs) (suc n) zero y other = refl
-  get_others (x ∷ xs) (suc n) (suc k) y other = get_others xs n k y (λ e. other (ap suc e))
-
 -- ---- file by file
 
 -- the files of the first few columns have grown, and what is kept of the others is as it was
@@ -88,17 +74,17 @@ one_grown granularity n more olds mids news old new before here is grows =
     record {
       many = ap length is ∙ length-set mids n new ∙ before.many;
       grown = λ k first last below was now. by k first last below was now (cases_lt k n);
-      rest = λ k past. ap (λ (cs : List ColumnOut). slice_get cs k) is ∙ get_others mids n k new (λ e. omega (arith, e, past)) ∙ before.rest k (omega arith);
+      rest = λ k past. ap (λ (cs : List ColumnOut). slice_get cs k) is ∙ set_apart mids n k new (λ e. omega (arith, e, past)) ∙ before.rest k (omega arith);
     }
   where
     by : (k : ℕ) (first last : ColumnOut) → k < n + 1 → slice_get olds k ≡ Some first → slice_get news k ≡ Some last → (k < n) ⊎ (n ≤ k) → Grows granularity (column_of k more) first last
     by k first last below was now (inl less) =
-        before.grown k first last less was (sym (get_others mids n k new (λ e. omega (arith, e, less))) ∙ ap (λ (cs : List ColumnOut). slice_get cs k) (sym is) ∙ now)
+        before.grown k first last less was (sym (set_apart mids n k new (λ e. omega (arith, e, less))) ∙ ap (λ (cs : List ColumnOut). slice_get cs k) (sym is) ∙ now)
     by k first last below was now (inr more_k) =
         let same : n ≡ k = omega arith in
         let within : n < length mids = slice_get_within mids n old here in
         let old_is : old ≡ first = some_same (sym here ∙ before.rest n (omega arith) ∙ ap (slice_get olds) same ∙ was) in
-        let new_is : new ≡ last = some_same (sym (get_changed mids n new within) ∙ ap (λ (cs : List ColumnOut). slice_get cs n) (sym is) ∙ ap (slice_get news) same ∙ now) in
+        let new_is : new ≡ last = some_same (sym (set_there mids n new within) ∙ ap (λ (cs : List ColumnOut). slice_get cs n) (sym is) ∙ ap (slice_get news) same ∙ now) in
         subst (λ (c : ColumnOut). Grows granularity (column_of k more) c last) old_is (subst (λ (c : ColumnOut). Grows granularity (column_of k more) old c) new_is (subst (λ i. Grows granularity (column_of i more) old new) same grows))
       where
         some_same : {x y : ColumnOut} → Some x ≡ Some y → x ≡ y

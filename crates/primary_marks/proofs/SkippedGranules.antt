@@ -134,7 +134,7 @@ rise columns rows sorted i j up below =
     (sorted_far (λ x y. is_lt (key_cmp columns x y)) (ranks_by (key_total columns) (λ (r : Row). r)) rows sorted i j [] up below)
 
 -- a key that breaks no rule begins with the primary key
-begun_by : (key primary : List ℕ) → prefix_fault key primary ≡ None → (rest : List ℕ) × (key ≡ primary ++ rest)
+pub begun_by : (key primary : List ℕ) → prefix_fault key primary ≡ None → (rest : List ℕ) × (key ≡ primary ++ rest)
 begun_by key [] sound = (key, refl)
 begun_by [] (c ∷ cs) sound = cc
 begun_by (own ∷ key) (c ∷ cs) sound = by (nat_eq own c) refl sound (begun_by key cs)

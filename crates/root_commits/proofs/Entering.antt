@@ -1,5 +1,5 @@
 -- The store with one table more.
-use Rattle.std.proofs.Common.{◌≡◌, ℕ, ◌+◌, ◌-◌, ◌<◌, Bool, true, false, cond, List, [], ◌∷◌, ◌++◌, Option, Some, None, length, filter, slice_get, refl, sym, ap, ◌∙◌, subst, append-nil, append_assoc, length-append, arith, inl, inr, ◌⊎◌}
+use Rattle.std.proofs.Common.{◌≡◌, ℕ, ◌+◌, ◌-◌, ◌<◌, false, cond, List, [], ◌∷◌, ◌++◌, Option, Some, None, length, filter, slice_get, refl, sym, ap, ◌∙◌, subst, append-nil, length-append, arith, inl, inr, ◌⊎◌}
 use Rattle.std.specs.List.{AllZip}
 use Rattle.std.specs.Option.{option_map}
 use Rattle.std.proofs.lemmas.List.Elements.{All-nil, filter-append}
@@ -12,11 +12,12 @@ use Rattle.mt_values.specs.declared.schema.Schema.{Schema}
 use Rattle.mt_values.specs.Grammar.{same_bytes}
 use Rattle.mt_values.specs.Values.{Row}
 use Rattle.mt_outside.specs.Files.{Files}
-use Rattle.root_store.specs.mt_model.History.{History, IsAllowed, IsLegal, IsLegalAfter, IsTableSchema, creates, entered, first_of, is_create, schema_of}
-use Rattle.root_store.specs.mt_model.Numbers.{IsNumberOfInsert, draws, last_number, numbered}
-use Rattle.root_store.proofs.MtModelHistories.{legal_push, numbered_more, schema_kept, schema_more}
+use Rattle.root_store.proofs.TableCoreKeeping.{none_numbered}
+use Rattle.root_store.specs.mt_model.History.{History, IsTableSchema, creates, entered, first_of, is_create, schema_of}
+use Rattle.root_store.specs.mt_model.Numbers.{IsNumberOfInsert, last_number, numbered}
+use Rattle.root_store.proofs.MtModelHistories.{legal_push, numbered_more, schema_more}
 use Rattle.root_store.proofs.MtModelLists.{get_past}
-use Rattle.root_store.proofs.MtModelTables.{itself_same, same_is}
+use Rattle.root_store.proofs.MtModelTables.{itself_same}
 use Rattle.root_store.specs.part_reader.declared.reading.Part.{Part}
 use Rattle.root_store.specs.part_reader.Parts.{PartHolds}
 use Rattle.root_store.specs.part_set.declared.kept.Kept.{Kept}
@@ -36,33 +37,6 @@ use Rattle.root_commits.proofs.Updated.{it_or, one_some}
 pub first_none : (o : Option Schema) → first_of o None ≡ o
 first_none None = refl
 first_none (Some schema) = refl
-
-none_after : (t : List ℕ) (before h : History) → IsLegalAfter before h → schema_of t (before ++ h) ≡ None → numbered t h ≡ []
-none_after t before [] legal none = refl
-none_after t before (e ∷ h) legal none = by e.command legal.0 (none_after t (before ++ e ∷ []) h legal.1 (ap (schema_of t) (append_assoc before (e ∷ []) h) ∙ none))
-  where
-    by : (c : Command) → IsAllowed before c → numbered t h ≡ [] → cond (draws t c) (c ∷ numbered t h) (numbered t h) ≡ []
-    by (command.Create c) allowed rest = rest
-    by (command.Insert i) allowed rest = named (same_bytes i.table t) refl
-      where
-        named : (b : Bool) → same_bytes i.table t ≡ b → cond b (command.Insert i ∷ numbered t h) (numbered t h) ≡ []
-        named true same =
-            let here : schema_of t before ≡ Some allowed.0 = ap (λ u. schema_of u before) (sym (same_is i.table t same)) ∙ allowed.1 in
-            let found : None ≡ Some allowed.0 = sym none ∙ schema_kept t before (e ∷ h) allowed.0 here in
-            cc
-        named false apart = rest
-    by (command.Alter a) allowed rest = named (same_bytes a.table t) refl
-      where
-        named : (b : Bool) → same_bytes a.table t ≡ b → cond b (command.Alter a ∷ numbered t h) (numbered t h) ≡ []
-        named true same =
-            let here : schema_of t before ≡ Some allowed.0 = ap (λ u. schema_of u before) (sym (same_is a.table t same)) ∙ allowed.1 in
-            let found : None ≡ Some allowed.0 = sym none ∙ schema_kept t before (e ∷ h) allowed.0 here in
-            cc
-        named false apart = rest
-
--- where there is no table no command drew a number of it
-pub none_numbered : (t : List ℕ) (h : History) → IsLegal h → schema_of t h ≡ None → numbered t h ≡ []
-none_numbered t h legal none = none_after t [] h legal none
 
 nothing_in_order : AreInBlockOrder []
 nothing_in_order = λ k d low lt. absurd (omega (arith, lt))

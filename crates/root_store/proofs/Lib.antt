@@ -52,5 +52,6 @@ pub use Rattle.table_core.proofs.PartSetShelving
 pub use Rattle.table_core.proofs.PartSetSwaps
 pub use Rattle.table_core.proofs.PartSetVisibles
 pub use Rattle.part_reader.proofs.PartWriterContents
+pub use Rattle.table_core.proofs.Keeping as TableCoreKeeping
 pub use Rattle.table_core.proofs.Neighbours as TableCoreNeighbours
 pub use Rattle.table_core.proofs.Stepping as TableCoreStepping

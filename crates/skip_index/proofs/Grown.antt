@@ -9,7 +9,7 @@ use Rattle.std.proofs.lemmas.List.FromFn.{length-map-range_with_len, map-range_w
 use Rattle.std.proofs.lemmas.Option.{slice_get_past}
 use Rattle.std.specs.Int.{div_ceil}
 use Rattle.std.specs.List.{range_with_len}
-use Rattle.column_file.proofs.Writing.{same_count}
+use Rattle.mt_values.proofs.Covers.{same_count}
 use Rattle.mt_values.specs.declared.schema.IndexKind.{IndexKind}
 use Rattle.mt_values.specs.declared.schema.Schema.{Schema}
 use Rattle.mt_values.specs.declared.schema.SkipIndex.{SkipIndex}

@@ -12,7 +12,8 @@ use Rattle.mt_values.specs.declared.schema.IndexKind.{IndexKind}
 use Rattle.mt_values.specs.declared.value.Value.{Value}
 use Rattle.mt_values.specs.declared.value.Value.TheVariants as value
 use Rattle.predicate.specs.declared.extent.Known.{Known}
-use Rattle.column_file.proofs.Writing.{AreWithin, chunk_parts, same_count, values_at}
+use Rattle.mt_values.proofs.Covers.{same_count}
+use Rattle.column_file.proofs.Writing.{AreWithin, chunk_parts, values_at}
 use Rattle.skip_index.specs.Blocks.{blocks_of, kept_of}
 
 any_value : Value

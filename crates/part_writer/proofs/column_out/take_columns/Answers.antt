@@ -13,7 +13,7 @@ use Rattle.primary_marks.proofs.MarkedRows.{map-map}
 use Rattle.part_writer.specs.declared.column_out.ColumnOut.{ColumnOut}
 use Rattle.part_writer.specs.Growing.{HasGrown, KeepsColumns}
 use Rattle.part_writer.specs.PartFiles.{content_bytes, mark_of}
-use Rattle.part_writer.proofs.ColumnFiles.{get_others}
+use Rattle.mt_values.proofs.SetItems.{set_apart}
 use Rattle.part_writer.proofs.column_out.take_columns.Goals as goal
 use Rattle.part_writer.proofs.column_out.take_columns.Goals.{After-end-own}
 
@@ -29,7 +29,7 @@ loop-number-preserved c =
     let n = c.loop-number.number in
     let at = (goal.at.loop-number-preserved c).After-end-own in
     record {
-      rest = λ k past. get_others c.loop-number.columns n k c.end-own.new.self (λ e. omega (arith, e, past)) ∙ c.loop-number.invariant.rest k (omega (arith, past));
+      rest = λ k past. set_apart c.loop-number.columns n k c.end-own.new.self (λ e. omega (arith, e, past)) ∙ c.loop-number.invariant.rest k (omega (arith, past));
       places = λ schema rows keeps.
           c.in_ok-push-2.ensures.ok
           ∙ ap₂ (λ (ps : List (List ℕ)) (p : List ℕ). ps ++ p ∷ []) (c.loop-number.invariant.places schema rows keeps) (c.end-own.ensures.places ∙ (here at schema rows keeps).places)
