@@ -4,7 +4,6 @@ use Rattle.std.specs.Option.{option_eq}
 use Rattle.std.specs.Cmp.Lexicographic.{pointwise, pointwise_decides}
 use Rattle.std.proofs.lemmas.Bool.Decides.{Decides-eqb, Decides-int_eq, Decides-like, Decides-and, Decides-at}
 use Rattle.mt_values.specs.declared.value.ColType.{ColType}
-use Rattle.mt_values.specs.declared.value.ColType.TheVariants as type
 use Rattle.mt_values.specs.declared.command.Create.{Create}
 use Rattle.mt_values.specs.declared.engine.Aggregate.{Aggregate}
 use Rattle.mt_values.specs.declared.engine.Aggregate.TheVariants as aggregate
@@ -18,6 +17,7 @@ use Rattle.mt_values.specs.declared.schema.SkipIndex.{SkipIndex}
 use Rattle.mt_values.specs.declared.value.Value.{Value}
 use Rattle.mt_values.specs.declared.value.Value.TheVariants.{UInt8, UInt16, UInt32, UInt64, Int8, Int16, Int32, Int64, Text}
 use Rattle.mt_values.specs.Values.{Row}
+use Rattle.mt_values.proofs.SameTypes.{type_same}
 use Rattle.mt_values.specs.contracts.value.ValuePartialEq.TheImpl as values
 use Rattle.mt_values.specs.contracts.value.ColTypePartialEq.TheImpl as types
 use Rattle.mt_values.specs.contracts.engine.AggregatePartialEq.TheImpl as aggregates
@@ -49,22 +49,6 @@ row_same a b = pointwise_decides value_same a b
 -- two lists of rows
 pub rows_same : (a b : List Row) → Decides (pointwise (pointwise values.eq-value.it) a b) (a ≡ b)
 rows_same a b = pointwise_decides row_same a b
-
-type_same : (x y : ColType) → Decides (types.eq-value.it x y) (x ≡ y)
-type_same type.UInt8 type.UInt8 = (λ e. refl, λ e. refl)
-type_same type.UInt16 type.UInt16 = (λ e. refl, λ e. refl)
-type_same type.UInt32 type.UInt32 = (λ e. refl, λ e. refl)
-type_same type.UInt64 type.UInt64 = (λ e. refl, λ e. refl)
-type_same type.Int8 type.Int8 = (λ e. refl, λ e. refl)
-type_same type.Int16 type.Int16 = (λ e. refl, λ e. refl)
-type_same type.Int32 type.Int32 = (λ e. refl, λ e. refl)
-type_same type.Int64 type.Int64 = (λ e. refl, λ e. refl)
-type_same type.Text type.Text = (λ e. refl, λ e. refl)
-type_same x y = (λ e. cc, λ e. cc)
-
--- two lists of types
-pub types_same : (a b : List ColType) → Decides (pointwise types.eq-value.it a b) (a ≡ b)
-types_same a b = pointwise_decides type_same a b
 
 -- two functions of columns, or none
 aggregate_same : (x y : Aggregate) → Decides (aggregates.eq-value.it x y) (x ≡ y)

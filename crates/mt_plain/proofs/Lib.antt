@@ -4,6 +4,7 @@ pub mod AllReplies
 pub mod Allowing
 pub mod Answering
 pub mod Bits
+pub mod Changing
 pub mod Equal
 pub mod Exactly
 pub mod Folded
@@ -14,6 +15,7 @@ pub mod Merging
 pub mod Newest
 pub mod OwnRows
 pub mod Parting
+pub mod Pruning
 pub mod Rows
 pub mod Signs
 pub mod Standing

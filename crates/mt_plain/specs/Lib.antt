@@ -1,3 +1,4 @@
+pub mod Changes
 pub mod Lefts
 pub mod Once
 pub mod Order

@@ -1,10 +1,13 @@
--- The portions of a table in the plain program, which merges and rewrites nothing: each INSERT is one, and no mutation was applied to it.
-use Rattle.std.specs.Prelude.{ℕ, ◌+◌, Bool, List, [], ◌∷◌, ◌++◌, length, if◌then◌else◌}
+-- The portions of a table in the plain program, which merges and rewrites nothing: each INSERT is one, and no mutation was applied to it. The mutations of a table.
+use Rattle.std.specs.Prelude.{ℕ, ◌&&◌, ◌+◌, Bool, List, [], ◌∷◌, ◌++◌, length, if◌then◌else◌, nat_lt}
 use Rattle.std.specs.List.{count_by, list_any}
 use Rattle.mt_values.specs.declared.command.Command.{Command}
 use Rattle.mt_values.specs.declared.command.Command.TheVariants as command
 use Rattle.mt_values.specs.declared.command.Insert.{Insert}
+use Rattle.mt_values.specs.declared.mutation.Mutation.{Mutation}
 use Rattle.mt_values.specs.declared.schema.Schema.{Schema}
+use Rattle.mt_values.specs.declared.schema.SkipIndex.{SkipIndex}
+use Rattle.mt_values.specs.Changes.{assigns, is_assigned}
 use Rattle.mt_values.specs.Grammar.{same_bytes}
 use Rattle.mt_values.specs.Tables.{sorting_cmp}
 use Rattle.part_history.specs.mt_model.declared.counts.Counts.{Counts}
@@ -39,6 +42,32 @@ portions_from table schema last ps (e ∷ es) =
 -- the portions of a table of this schema
 abbrev pub unmerged : List ℕ → Schema → History → List Portion
 unmerged table schema h = portions_from table schema 0 [] h
+
+-- the mutations of a table after one more command, by the last number that was drawn before
+abbrev pub mutations_after : List ℕ → ℕ → List Mutation → Command → List Mutation
+mutations_after table last ms (command.Create c) = ms
+mutations_after table last ms (command.Insert i) = ms
+mutations_after table last ms (command.Alter a) =
+    if same_bytes a.table table then ms ++ record { number = last + 1; change = a.change } ∷ [] else ms
+
+-- what commands add to these mutations, by the last number that was drawn before
+abbrev pub mutations_from : List ℕ → ℕ → List Mutation → History → List Mutation
+mutations_from table last ms [] = ms
+mutations_from table last ms (e ∷ es) =
+    mutations_from table (last_after table last e.command) (mutations_after table last ms e.command) es
+
+-- whether a mutation has a number above this version, and assigns the column at a place
+abbrev pub is_put_later : ℕ → ℕ → Mutation → Bool
+is_put_later version place m = nat_lt version m.number && assigns m.change place
+
+-- indexes with one more at their end, unless one of the mutations assigns its column
+abbrev pub with_index : List Mutation → List SkipIndex → SkipIndex → List SkipIndex
+with_index mutations left i = if is_assigned mutations i.column then left else left ++ i ∷ []
+
+-- the same with each of some indexes
+abbrev pub with_indexes : List Mutation → List SkipIndex → List SkipIndex → List SkipIndex
+with_indexes mutations left [] = left
+with_indexes mutations left (i ∷ indexes) = with_indexes mutations (with_index mutations left i) indexes
 
 -- the numbers of an EXPLAIN over one part more, whose granules are chosen so
 abbrev pub with_part : Counts → List Bool → Counts

@@ -7,26 +7,29 @@ ghost use Rattle.part_history.specs.predicate.Granules as boxes;
 ghost use Rattle.mt_plain.specs.Portions as portions;
 
 use super::boxes::box_between;
+use super::mutations::pruning_indexes;
 use super::narrowing::narrowed;
 use crate::{Portion, picked_rows};
 use mt_base::{NoMemory, Partition, Twin};
-use mt_values::{Expr, Row, Schema, Test};
+use mt_values::{Expr, Mutation, Row, Schema, Test};
 use part_history::mt_model::Counts;
 use part_history::predicate::may_match;
 use std::alloc::Global;
 
-/// The numbers of an EXPLAIN with this condition, with FINAL or without it, over portions of a table of this schema.
+/// The numbers of an EXPLAIN with this condition, with FINAL or without it, over portions of a table of this schema with these
+/// mutations.
 ///
 /// `NoMemory` where an allocation failed, and for 2^64 granules and more, which no memory holds.
 pub fn counts(
     alloc: Global,
     schema: &Schema,
+    mutations: &[Mutation],
     is_final: bool,
     condition: &Expr<Test>,
     portions: &[Portion],
 ) -> Result<Counts, NoMemory>
-    ensures { IfOk result (λ counts. counts ≡ explain.counts_of schema.now is_final condition.now
-        portions.now) }
+    ensures { IfOk result (λ counts. counts ≡ explain.counts_of schema.now mutations.now is_final
+        condition.now portions.now) }
 {
     let mut counts = Counts {
         chosen_parts: 0,
@@ -35,7 +38,7 @@ pub fn counts(
         granules: 0,
     };
     for portion in portions {
-        let chosen = chosen_granules(alloc, schema, is_final, condition, portion)?;
+        let chosen = chosen_granules(alloc, schema, mutations, is_final, condition, portion)?;
         counts = with_part(&counts, &chosen)?;
     }
     Ok(counts)
@@ -78,16 +81,18 @@ fn sum(count: u64, more: usize) -> Result<u64, NoMemory>
     }
 }
 
-/// Which granules of a portion's rows a condition leaves: those that their marks choose and, without FINAL, each skip index of the table.
+/// Which granules of a portion's rows a condition leaves: those that their marks choose and, without FINAL, each skip index of the table
+/// whose column no mutation assigns for which the rows wait.
 fn chosen_granules(
     alloc: Global,
     schema: &Schema,
+    mutations: &[Mutation],
     is_final: bool,
     condition: &Expr<Test>,
     portion: &Portion,
 ) -> Result<Vec<bool>, NoMemory>
     ensures { IfOk result (λ chosen. chosen.items ≡ explain.chosen_granules schema.now
-        is_final condition.now portion.now) }
+        mutations.now is_final condition.now portion.now) }
 {
     let rows = portion.rows();
     let keys = mark_keys(alloc, schema, rows)?;
@@ -95,7 +100,8 @@ fn chosen_granules(
     if is_final {
         return Ok(chosen);
     }
-    narrowed(alloc, schema, condition, rows, chosen)
+    let indexes = pruning_indexes(alloc, schema, mutations, portion.version())?;
+    narrowed(alloc, schema, &indexes, condition, rows, chosen)
 }
 
 /// Whether each granule is chosen, by the primary keys of their first rows and of the last row of all.

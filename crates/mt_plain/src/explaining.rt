@@ -5,6 +5,7 @@ ghost use Rattle.part_history.specs.mt_model.Explain.{Explains, explain_line};
 ghost use Rattle.part_history.specs.mt_model.History as history;
 ghost use Rattle.part_history.specs.mt_model.Queries.{query_of};
 
+use super::mutations::mutations_of;
 use super::portions::portions_of;
 use crate::counts;
 use mt_base::{NoMemory, Stop};
@@ -14,8 +15,8 @@ use std::alloc::Global;
 
 /// The numbers of an EXPLAIN of a table of this schema, where nothing was merged; or what it is refused for, as a SELECT is.
 ///
-/// `Stop::NoMemory` where an allocation failed, for a table of 2^32 columns and more, and for 2^64 granules and more, which no
-/// legal history has.
+/// `Stop::NoMemory` where an allocation failed, for a table of 2^32 columns and more, for 2^64 granules and more, and for a mutation
+/// whose number is 2^32 or more, which no legal history has that a memory holds.
 pub fn explained(
     alloc: Global,
     entries: &[Entry],
@@ -32,7 +33,14 @@ pub fn explained(
         return Err(Stop::NoMemory);
     }
     let query = query_of(alloc, columns, asked)?;
+    let mutations = mutations_of(alloc, &asked.table, entries)?;
     let portions = portions_of(alloc, &asked.table, schema, entries)?;
-    let is_final = asked.is_final;
-    Ok(counts(alloc, schema, is_final, &query.condition, &portions)?)
+    Ok(counts(
+        alloc,
+        schema,
+        &mutations,
+        asked.is_final,
+        &query.condition,
+        &portions,
+    )?)
 }

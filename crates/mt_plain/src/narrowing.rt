@@ -1,7 +1,7 @@
 // Which granules a condition leaves by what skip indexes keep of rows.
 ghost use Rattle.std.specs.Prelude.{◌≡◌, ◌/◌, IfOk, fold, length, map, slice_index_or};
 ghost use Rattle.part_history.specs.predicate.Boxes as boxes;
-ghost use Rattle.part_history.specs.predicate.Indexes as indexes;
+ghost use Rattle.part_history.specs.predicate.Indexes as predicate;
 ghost use Rattle.part_history.specs.predicate.Masks as masks;
 ghost use Rattle.part_history.specs.predicate.declared.extent.Known.TheVariants as known;
 
@@ -12,21 +12,22 @@ use mt_values::{Expr, Row, Schema, SkipIndex, Test};
 use part_history::predicate::{Extent, Known, may_match};
 use std::alloc::Global;
 
-/// Of these answers for the granules of rows, those that each skip index of the table leaves too.
+/// Of these answers for the granules of rows, those that each of these skip indexes leaves too.
 ///
 /// `NoMemory` where an allocation failed.
 pub fn narrowed(
     alloc: Global,
     schema: &Schema,
+    indexes: &[SkipIndex],
     condition: &Expr<Test>,
     rows: &[Row],
     chosen: Vec<bool>,
 ) -> Result<Vec<bool>, NoMemory>
     ensures { IfOk result (λ left. left.items ≡ fold masks.both chosen.items
-        (map (indexes.chosen_by_index schema.now condition.now rows.now) schema.now.indexes)) }
+        (map (predicate.chosen_by_index schema.now condition.now rows.now) indexes.now)) }
 {
     let mut left = chosen;
-    for index in schema.indexes.as_slice() {
+    for index in indexes {
         let own = chosen_by_index(alloc, schema, condition, rows, index)?;
         left = both(alloc, &left, &own)?;
     }
@@ -44,7 +45,7 @@ pub fn chosen_by_index(
     rows: &[Row],
     index: &SkipIndex,
 ) -> Result<Vec<bool>, NoMemory>
-    ensures { IfOk result (λ chosen. chosen.items ≡ indexes.chosen_by_index schema.now
+    ensures { IfOk result (λ chosen. chosen.items ≡ predicate.chosen_by_index schema.now
         condition.now rows.now index.now) }
 {
     let kept = blocks_kept(alloc, schema, index, rows)?;

@@ -61,6 +61,13 @@ impl Portion {
         self.partition
     }
 
+    /// The number up to which mutations were applied to the rows: the least, since none was.
+    pub fn version(&self) -> usize
+        ensures { result ≡ self.now.version }
+    {
+        self.least
+    }
+
     /// The rows, in their order.
     pub fn rows(&self) -> &[Row]
         ensures { result.now ≡ self.now.rows }
@@ -114,7 +121,7 @@ fn add_portion(
 }
 
 /// The last number of a table that was drawn, after one more command.
-fn last_after(table: &Name, last: usize, command: &Command) -> usize
+pub(crate) fn last_after(table: &Name, last: usize, command: &Command) -> usize
     requires { last < 18446744073709551615 }
     ensures last { result ≡ portions.last_after table.now last command.now }
     ensures few { result ≤ last + 1 }

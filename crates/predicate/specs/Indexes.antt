@@ -78,7 +78,11 @@ abbrev pub chosen_by_index : Schema → Condition Test → List Row → SkipInde
 chosen_by_index schema c rows i =
     chosen_by_blocks c i.column i.granularity (granules schema.granularity (length rows)) (blocks_kept schema i rows)
 
--- which granules of a part with these rows a condition leaves: those that its marks choose, and each of the table's skip indexes (docs/definitions.md, "Boxes of skip indexes")
+-- which granules of a part with these rows a condition leaves: those that its marks choose, and each of these skip indexes (docs/definitions.md, "Boxes of skip indexes")
+abbrev pub chosen_by_indexes : Schema → Partition → Condition Test → List Row → List SkipIndex → List Bool
+chosen_by_indexes schema partition c rows indexes =
+    fold both (chosen_in schema partition c (mark_keys schema.primary schema.granularity rows)) (map (chosen_by_index schema c rows) indexes)
+
+-- the same by all skip indexes of the table (docs/definitions.md, "Boxes of skip indexes")
 abbrev pub chosen_of_rows : Schema → Partition → Condition Test → List Row → List Bool
-chosen_of_rows schema partition c rows =
-    fold both (chosen_in schema partition c (mark_keys schema.primary schema.granularity rows)) (map (chosen_by_index schema c rows) schema.indexes)
+chosen_of_rows schema partition c rows = chosen_by_indexes schema partition c rows schema.indexes

@@ -1,5 +1,5 @@
 use Rattle.std.proofs.lemmas.Bool.Decides.{Decides-at}
-use Rattle.mt_plain.proofs.Equal.{types_same}
+use Rattle.mt_values.proofs.SameTypes.{types_same}
 use Rattle.mt_plain.proofs.blocks.same_types.Goals as goal
 
 pub returns : goal.returns
