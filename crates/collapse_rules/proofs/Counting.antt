@@ -1,11 +1,11 @@
 -- The numbers of both signs, after one row more, and what they leave.
-use Rattle.std.proofs.Common.{◌≡◌, ℕ, ◌+◌, ◌<◌, ◌++◌, ◌||◌, Bool, true, false, cond, List, [], ◌∷◌, length, filter, Option, None, Some, refl, sym, ap, ◌∙◌, inl, inr, append-nil, arith, slice_get, option_to_list, is_none}
+use Rattle.std.proofs.Common.{◌≡◌, ℕ, ◌+◌, ◌<◌, ◌++◌, ◌||◌, Bool, true, false, cond, List, [], ◌∷◌, length, filter, Option, None, Some, refl, sym, ap, ap₂, ◌∙◌, inl, inr, append-nil, arith, slice_get, option_to_list, is_none}
 use Rattle.std.proofs.lemmas.List.Elements.{filter-append}
 use Rattle.std.proofs.lemmas.List.{length_push}
 use Rattle.std.specs.List.{list_any}
 use Rattle.mt_values.specs.Values.{Row}
-use Rattle.rule_law.specs.mt_model.Rules.{HasSign, collapsed, ends_with_state, first_of, is_cancel, is_state, last_of}
-use Rattle.rule_law.proofs.Alternating.{left_cancels, left_even, left_states, one_sign}
+use Rattle.rule_law.specs.mt_model.Rules.{HasSign, collapsed, ends_with_state, first_of, is_cancel, is_state, last_of, left_of_signs}
+use Rattle.rule_law.proofs.Alternating.{left_cancels, left_even, left_states, one_sign, other_sign}
 use Rattle.rule_law.proofs.Newest.{last_after}
 use Rattle.collapse_rules.specs.Counted.{IsCounted}
 use Rattle.collapse_rules.specs.declared.collapsing.Counted.{Counted}
@@ -42,6 +42,17 @@ first_some (Some found) [] row h some = absurd (clash h)
     clash : found ∷ [] ≡ [] → ⊥
     clash e = cc
 first_some (Some found) (x ∷ xs) row h some = h
+
+-- one row is all that is left of itself
+pub alone_left : (sign : ℕ) (row : Row) → HasSign sign row → row ∷ [] ≡ collapsed sign (row ∷ [])
+alone_left sign row signed = sym (by signed)
+  where
+    by_signs : Bool → Bool → List Row
+    by_signs state cancel = left_of_signs (ends_with_state sign (row ∷ [])) (cond state (row ∷ []) []) (cond cancel (row ∷ []) [])
+
+    by : HasSign sign row → by_signs (is_state sign row) (is_cancel sign row) ≡ row ∷ []
+    by (inl state) = ap₂ by_signs state (one_sign (slice_get row sign) state)
+    by (inr cancel) = ap₂ by_signs (other_sign (slice_get row sign) cancel) cancel
 
 pub none_counted : (sign : ℕ) → IsCounted sign [] (record { states = 0; cancels = 0; first_cancel = None; last_state = None; ended = false })
 none_counted sign = record { states = refl; cancels = refl; first = refl; last = refl; ended = refl }

@@ -7,13 +7,11 @@ ghost use Rattle.mt_values.specs.Order.{key_of};
 ghost use Rattle.collapse_rules.specs.Counted.{IsCounted};
 ghost use Rattle.rule_law.proofs.Alternating.{collapsing_law};
 ghost use Rattle.rule_law.proofs.Kept.{collapsing_keeps};
-ghost use Rattle.rule_law.proofs.Letting.{collapsing_let};
-ghost use Rattle.rule_law.specs.Changes.{IsLet};
-ghost use Rattle.rule_law.specs.mt_model.Mutations.{protects};
+ghost use Rattle.rule_law.proofs.RuleChanged.{rule_stays};
 
 use crate::signs::is_state;
 use mt_base::{NoMemory, Twin};
-use mt_values::Row;
+use mt_values::{Block, Row};
 use rule_law::RowRule;
 use std::alloc::Global;
 
@@ -61,13 +59,13 @@ impl RowRule for CollapsingRule {
 
     ghost law = { λ rule rows x out some takes comes leaves. collapsing_law rule.sign rows x out some comes leaves };
 
-    ghost lets = { λ rule. IsLet (protects (engine.Collapsing rule.sign) []) };
+    ghost engine_of = { λ rule. engine.Collapsing rule.sign };
 
-    ghost mutates = { λ rule places key types c rows out lets apart some taken typed same run.
-        collapsing_let places key types rows out some typed same
-        (collapsing_keeps (λ r. types_of r ≡ types) rule.sign rows out typed run)
-        (collapsing_keeps (λ r. key_of places r ≡ key) rule.sign rows out same run)
-        rule.sign c lets run };
+    ghost functions = { λ rule. [] };
+
+    ghost runs = { λ rule rows out. (λ run. run, λ run. run) };
+
+    ghost mutates = { λ rule. rule_stays (engine.Collapsing rule.sign) [] };
 
     fn begin(&self, alloc: Global, row: &Row) -> Result<Counted, NoMemory> {
         let mut counted = Counted {
@@ -107,6 +105,14 @@ impl RowRule for CollapsingRule {
             add_kept(&mut rows, last_state)?;
         }
         Ok(rows)
+    }
+
+    fn stays_alone(&self, _block: &Block, _at: usize) -> bool {
+        true
+    }
+
+    fn gives_way(&self, _block: &Block, _at: usize, _next: &Block, _place: usize) -> bool {
+        false
     }
 }
 

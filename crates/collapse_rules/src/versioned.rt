@@ -5,14 +5,12 @@ ghost use Rattle.mt_values.specs.declared.engine.Engine.TheVariants as engine;
 ghost use Rattle.mt_values.specs.Order.{key_of};
 ghost use Rattle.mt_values.specs.Values.{types_of};
 ghost use Rattle.rule_law.proofs.Kept.{versioned_keeps};
-ghost use Rattle.rule_law.proofs.Letting.{versioned_let};
-ghost use Rattle.rule_law.specs.Changes.{IsLet};
-ghost use Rattle.rule_law.specs.mt_model.Mutations.{protects};
+ghost use Rattle.rule_law.proofs.RuleChanged.{rule_stays};
 ghost use Rattle.rule_law.proofs.OneSign.{versioned_law};
 
 use crate::signs::is_state;
 use mt_base::{NoMemory, Twin};
-use mt_values::Row;
+use mt_values::{Block, Row};
 use rule_law::RowRule;
 use std::alloc::Global;
 
@@ -48,13 +46,13 @@ impl RowRule for VersionedRule {
 
     ghost law = { λ rule rows x out some takes comes leaves. versioned_law rule.sign rule.version rows x out some comes leaves };
 
-    ghost lets = { λ rule. IsLet (protects (engine.Versioned rule.sign rule.version) []) };
+    ghost engine_of = { λ rule. engine.Versioned rule.sign rule.version };
 
-    ghost mutates = { λ rule places key types c rows out lets apart some taken typed same run.
-        versioned_let places key types rows out some typed same
-        (versioned_keeps (λ r. types_of r ≡ types) rule.sign rule.version rows out typed run)
-        (versioned_keeps (λ r. key_of places r ≡ key) rule.sign rule.version rows out same run)
-        rule.sign rule.version c lets run };
+    ghost functions = { λ rule. [] };
+
+    ghost runs = { λ rule rows out. (λ run. run, λ run. run) };
+
+    ghost mutates = { λ rule. rule_stays (engine.Versioned rule.sign rule.version) [] };
 
     #[tactic(auto, using(crate::proofs::Pairs::one_left))]
     fn begin(&self, alloc: Global, row: &Row) -> Result<Vec<Row>, NoMemory> {
@@ -78,5 +76,13 @@ impl RowRule for VersionedRule {
 
     fn end(&self, _alloc: Global, kept: Vec<Row>) -> Result<Vec<Row>, NoMemory> {
         Ok(kept)
+    }
+
+    fn stays_alone(&self, _block: &Block, _at: usize) -> bool {
+        true
+    }
+
+    fn gives_way(&self, _block: &Block, _at: usize, _next: &Block, _place: usize) -> bool {
+        false
     }
 }

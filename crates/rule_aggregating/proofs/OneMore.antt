@@ -1,10 +1,8 @@
 -- What a function makes of one value, and of values and of one more.
-use Rattle.std.proofs.Common.{◌≡◌, ℕ, ◌+◌, ◌*◌, ◌<◌, ◌%◌, ◌^◌, Bool, true, false, cond, eq-eqb, List, [], ◌∷◌, ◌++◌, refl, sym, ap, ◌∙◌, subst, append_assoc, arith, pos, ◌+ℤ◌, unsigned_abs, w8, w16, w32, w64}
+use Rattle.std.proofs.Common.{◌≡◌, ℕ, Bool, true, false, cond, eq-eqb, List, [], ◌∷◌, ◌++◌, refl, sym, ap, ◌∙◌, subst, append_assoc, ◌+ℤ◌}
 use Rattle.std.proofs.Math.IntN.{+ℤ_idr}
-use Rattle.std.proofs.lemmas.Int.{int_rem_euclid_is, int_wrap_fits, ints}
 use Rattle.std.proofs.lemmas.List.Elements.{All-nil, All-cons, All-push, All-weaker}
 use Rattle.std.specs.Cmp.{IsStrictWeakOrder}
-use Rattle.std.specs.Int.{int_rem_euclid, int_wrap}
 use Rattle.std.specs.Ordering.{is_lt}
 use Rattle.mt_values.specs.declared.engine.Aggregate.{Aggregate}
 use Rattle.mt_values.specs.declared.engine.Aggregate.TheVariants as aggregate
@@ -18,29 +16,10 @@ use Rattle.rule_law.specs.mt_model.Rules.{IsAggregateOf, IsBest, integer_of, tot
 use Rattle.rule_aggregating.specs.Folded.{FoldsIn, plus}
 use Rattle.rule_law.proofs.Aggregated.{aggregate_type, greater_order, less_order, passes_not}
 use Rattle.rule_law.proofs.OneSign.{total_after}
+use Rattle.rule_law.proofs.Ranges.{sum_of_one}
 use Rattle.mt_values.proofs.Wrapping.{wrapped_again, wrapped_twice}
 
--- ---- the lowest bits of what is not below 0
-
-low_of_sum : (n a b : ℕ) → 0 < n → unsigned_abs (int_rem_euclid (pos a +ℤ pos b) (pos n)) ≡ (a + b) % n
-low_of_sum n a b some = ap unsigned_abs (int_rem_euclid_is (pos a +ℤ pos b) (pos n) n 0 (a + b) some refl (no_more a b (0 * n) (omega arith)))
-  where
-    no_more : (a b m : ℕ) → m ≡ 0 → (pos a +ℤ pos b) +ℤ pos m ≡ pos (a + b)
-    no_more a b m e = omega (arith, ints)
-
 -- ---- one value
-
--- a value of its type's range is its own sum
-sum_of_one : (v : Value) → FitsType v → v ≡ wrapped_as v (total (v ∷ []))
-sum_of_one (value.UInt8 n) fits = ap value.UInt8 (sym (low_of_sum (2 ^ 8) n 0 (omega arith) ∙ omega arith))
-sum_of_one (value.UInt16 n) fits = ap value.UInt16 (sym (low_of_sum (2 ^ 16) n 0 (omega arith) ∙ omega arith))
-sum_of_one (value.UInt32 n) fits = ap value.UInt32 (sym (low_of_sum (2 ^ 32) n 0 (omega arith) ∙ omega arith))
-sum_of_one (value.UInt64 n) fits = ap value.UInt64 (sym (low_of_sum (2 ^ 64) n 0 (omega arith) ∙ omega arith))
-sum_of_one (value.Int8 z) fits = ap value.Int8 (sym (ap (int_wrap w8) (+ℤ_idr z) ∙ int_wrap_fits w8 z fits))
-sum_of_one (value.Int16 z) fits = ap value.Int16 (sym (ap (int_wrap w16) (+ℤ_idr z) ∙ int_wrap_fits w16 z fits))
-sum_of_one (value.Int32 z) fits = ap value.Int32 (sym (ap (int_wrap w32) (+ℤ_idr z) ∙ int_wrap_fits w32 z fits))
-sum_of_one (value.Int64 z) fits = ap value.Int64 (sym (ap (int_wrap w64) (+ℤ_idr z) ∙ int_wrap_fits w64 z fits))
-sum_of_one (value.Text bytes) fits = refl
 
 best_of_one : (passes : Value → Value → Bool) (order : IsStrictWeakOrder passes) (v : Value) → IsBest passes (v ∷ []) v
 best_of_one passes order v =

@@ -3,14 +3,12 @@ ghost use Rattle.std.specs.Prelude.{◌≡◌, [], All, None, Some, length, slic
 ghost use Rattle.rule_law.specs.mt_model.Rules.{AreAggregatesFrom, Folds, Run};
 ghost use Rattle.mt_values.specs.Values.{types_of};
 ghost use Rattle.mt_values.specs.declared.engine.Engine.TheVariants as engine;
-ghost use Rattle.rule_law.proofs.Aggregated.{aggregating_keeps, aggregating_law, aggregating_stays, taken_types};
-ghost use Rattle.rule_law.proofs.Letting.{aggregating_let, left_of_types};
-ghost use Rattle.rule_law.specs.Changes.{IsLet};
-ghost use Rattle.rule_law.specs.mt_model.Mutations.{protects};
+ghost use Rattle.rule_law.proofs.Aggregated.{aggregating_keeps, aggregating_law, aggregating_stays};
+ghost use Rattle.rule_law.proofs.RuleChanged.{rule_stays};
 
 use crate::folding::{fold_row, read_number};
 use mt_base::{NoMemory, Seq, Twin};
-use mt_values::{Aggregate, ColType, Row, Value};
+use mt_values::{Aggregate, Block, ColType, Row, Value};
 use rule_law::RowRule;
 use std::alloc::Global;
 
@@ -47,13 +45,13 @@ impl RowRule for AggregatingRule {
     ghost law = { λ rule rows x out some takes comes leaves.
         aggregating_law rule.types rule.functions rows x out some takes comes leaves };
 
-    ghost lets = { λ rule. IsLet (protects engine.Aggregating rule.functions) };
+    ghost engine_of = { λ rule. engine.Aggregating };
 
-    ghost mutates = { λ rule places key types c rows out lets apart some taken typed same run.
-        aggregating_let places key rule.types rows out some (taken_types rule.types rule.functions rows taken) same
-        (left_of_types rule.types rule.functions rows out some taken run)
-        (aggregating_keeps rule.types rule.functions places key rows out apart some taken same run)
-        rule.functions c (taken 0 [] some).1 lets run };
+    ghost functions = { λ rule. rule.functions };
+
+    ghost runs = { λ rule rows out. (λ run. run, λ run. run) };
+
+    ghost mutates = { λ rule. rule_stays engine.Aggregating rule.functions };
 
     fn begin(&self, alloc: Global, row: &Row) -> Result<Vec<Value>, NoMemory> {
         // Reading each number shows that it is in its type's range.
@@ -72,5 +70,13 @@ impl RowRule for AggregatingRule {
         let mut rows = Vec::new(alloc);
         rows.push(Seq::of(kept))?;
         Ok(rows)
+    }
+
+    fn stays_alone(&self, _block: &Block, _at: usize) -> bool {
+        true
+    }
+
+    fn gives_way(&self, _block: &Block, _at: usize, _next: &Block, _place: usize) -> bool {
+        false
     }
 }

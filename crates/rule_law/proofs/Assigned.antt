@@ -2,7 +2,6 @@
 use Rattle.std.proofs.Common.{◌≡◌, ℕ, zero, suc, Bool, true, false, List, [], ◌∷◌, length, Option, None, Some, slice_get, set, fold, refl, sym, ap, ◌∙◌, arith}
 use Rattle.std.specs.List.{All}
 use Rattle.std.specs.Option.{option_map}
-use Rattle.std.proofs.Math.ListN.{length-set}
 use Rattle.std.proofs.lemmas.List.Elements.{All-head, All-tail, All-weaker}
 use Rattle.mt_values.specs.declared.change.Assigned.{Assigned}
 use Rattle.mt_values.specs.declared.change.Assigned.TheVariants as assigned
@@ -11,17 +10,11 @@ use Rattle.mt_values.specs.declared.value.Value.{Value}
 use Rattle.mt_values.specs.Changes.{updated, value_for, with_value}
 use Rattle.mt_values.specs.Sums.{less, plus}
 use Rattle.mt_values.specs.Values.{Row}
+use Rattle.mt_values.proofs.SetItems.{put_apart, put_length}
 use Rattle.mt_model.specs.Mutations.{reads_of}
-use Rattle.rule_law.specs.Changes.{IsFree}
+use Rattle.rule_law.proofs.Letting.{IsFree}
 
 -- ---- a value that is set
-
-set_apart : (xs : Row) (i j : ℕ) (v : Value) → (i ≡ j → ⊥) → slice_get (set xs i v) j ≡ slice_get xs j
-set_apart [] i j v apart = refl
-set_apart (x ∷ xs) zero zero v apart = absurd (apart refl)
-set_apart (x ∷ xs) zero (suc j) v apart = refl
-set_apart (x ∷ xs) (suc i) zero v apart = refl
-set_apart (x ∷ xs) (suc i) (suc j) v apart = set_apart xs i j v (λ e. apart (ap suc e))
 
 set_alike : (xs ys : Row) (i j : ℕ) (v : Value) → length xs ≡ length ys → slice_get xs j ≡ slice_get ys j → slice_get (set xs i v) j ≡ slice_get (set ys i v) j
 set_alike [] [] i j v even same = refl
@@ -32,17 +25,9 @@ set_alike (x ∷ xs) (y ∷ ys) zero (suc j) v even same = same
 set_alike (x ∷ xs) (y ∷ ys) (suc i) zero v even same = same
 set_alike (x ∷ xs) (y ∷ ys) (suc i) (suc j) v even same = set_alike xs ys i j v (omega (arith, even)) same
 
-put_apart : (row : Row) (i j : ℕ) (o : Option Value) → (i ≡ j → ⊥) → slice_get (with_value row i o) j ≡ slice_get row j
-put_apart row i j None apart = refl
-put_apart row i j (Some v) apart = set_apart row i j v apart
-
 put_alike : (a b : Row) (i j : ℕ) (o : Option Value) → length a ≡ length b → slice_get a j ≡ slice_get b j → slice_get (with_value a i o) j ≡ slice_get (with_value b i o) j
 put_alike a b i j None even same = same
 put_alike a b i j (Some v) even same = set_alike a b i j v even same
-
-put_length : (row : Row) (i : ℕ) (o : Option Value) → length (with_value row i o) ≡ length row
-put_length row i None = refl
-put_length row i (Some v) = length-set row i v
 
 -- ---- assignments, one after another
 

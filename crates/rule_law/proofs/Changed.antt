@@ -25,7 +25,8 @@ use Rattle.mt_values.specs.Tests.{eval, meets_some}
 use Rattle.mt_values.specs.Values.{Row, type_of, types_of}
 use Rattle.mt_model.specs.Mutations.{is_folded, protects}
 use Rattle.mt_model.specs.Rules.{IsAggregateOf, IsSublist, LeavesAggregates, LeavesLast, LeavesNewest, LeavesOneSign, LeavesSums, Run, are_zero, collapsed, ends_with_state, first_of, function_or_first, is_cancel, is_one_of, is_sign, is_state, last_of, left_of_signs, summed, total, version_at, with_sums, with_sums_from, wrapped_as}
-use Rattle.rule_law.specs.Changes.{IsFree, IsLet, IsOfPlaces, StaysLeft}
+use Rattle.rule_law.specs.Changes.{StaysLeft}
+use Rattle.rule_law.proofs.Letting.{IsFree, IsLet, IsOfPlaces}
 use Rattle.rule_law.proofs.Aggregated.{aggregate_at, aggregates_at_all, aggregates_length, all_left, all_right, column_of_one, first_kept, function_at, no_value}
 use Rattle.rule_law.proofs.Assigned.{Agree, assign_free, assigned_to, reads_same, updated_agree, updated_kept, updated_length}
 use Rattle.rule_law.proofs.Summed.{sums_alike, sums_apart}

@@ -22,7 +22,7 @@ use Rattle.mt_values.specs.Sums.{integer_of, less, plus, wrapped_as}
 use Rattle.mt_values.specs.Tests.{eval}
 use Rattle.mt_values.specs.Values.{FitsType, IsValue, Row, type_of, types_of}
 use Rattle.mt_values.proofs.RowPartitions.{values_fit}
-use Rattle.mt_values.proofs.Wrapping.{wrapped_type}
+use Rattle.mt_values.proofs.Wrapping.{less_type, plus_type}
 use Rattle.mt_model.specs.Mutations.{IsAssignable, IsAssignment, IsChangeOf, is_folded, is_protected}
 use Rattle.rule_law.specs.TableRows.{IsTableRow}
 use Rattle.rule_law.proofs.Assigned.{AssignFree, assigned_to, updated_kept}
@@ -34,20 +34,6 @@ use Rattle.rule_law.proofs.Ranges.{wrapped_fits}
 pub record FitsPlace (types : List ColType) (place : ℕ) (v : Value) : Type 0 where
   pub typed : slice_get types place ≡ Some (type_of v)
   pub fits : FitsType v
-
-plus_type : (v w : Value) → type_of (plus v w) ≡ type_of v
-plus_type v w = by (nat_eq (rank_of v) (rank_of w))
-  where
-    by : (b : Bool) → type_of (cond b (wrapped_as v (integer_of v +ℤ integer_of w)) v) ≡ type_of v
-    by true = wrapped_type v (integer_of v +ℤ integer_of w)
-    by false = refl
-
-less_type : (v w : Value) → type_of (less v w) ≡ type_of v
-less_type v w = by (nat_eq (rank_of v) (rank_of w))
-  where
-    by : (b : Bool) → type_of (cond b (wrapped_as v (integer_of v -ℤ integer_of w)) v) ≡ type_of v
-    by true = wrapped_type v (integer_of v -ℤ integer_of w)
-    by false = refl
 
 plus_fits : (v w : Value) → FitsType v → FitsType (plus v w)
 plus_fits v w own = by (nat_eq (rank_of v) (rank_of w))

@@ -41,13 +41,14 @@ use Rattle.mt_model.proofs.Determined.{sorting_total}
 use Rattle.mt_model.proofs.Merged.{comes_on}
 use Rattle.mt_model.proofs.SameKeys.{filters_swap}
 use Rattle.mt_model.proofs.Sorting.{equal_is}
-use Rattle.rule_law.specs.Changes.{IsFree, IsLet, IsOfPlaces, StaysLeft}
+use Rattle.rule_law.specs.Changes.{StaysLeft}
 use Rattle.rule_law.specs.TableRows.{IsTableRow}
 use Rattle.rule_law.proofs.Aggregated.{all_left, all_right, values_same}
 use Rattle.rule_law.proofs.ApartColumns.{sorting_apart}
 use Rattle.rule_law.proofs.Assigned.{AssignFree, updated_kept}
 use Rattle.rule_law.proofs.Changed.{IsOfKey, filter_mapped, key_alike, plain_let, run_let}
 use Rattle.rule_law.proofs.ChangedRows.{changed_table}
+use Rattle.rule_law.proofs.Letting.{IsFree, IsLet, IsOfPlaces}
 use Rattle.rule_law.proofs.PartlyRows.{merges_keep}
 use Rattle.rule_law.proofs.TableRows.{even_columns, run_apart, run_table}
 
@@ -252,6 +253,10 @@ module _ (schema : Schema) (table : IsTableSchema schema) where
             (All-weaker (IsOwn key) (λ r. types_of r ≡ column_types schema) (λ r x. x.row.typed) rows own)
             (All-weaker (IsOwn key) (IsOfKey columns (length (column_types schema)) key) (keyed key) rows own)
             (All-weaker (IsOwn key) (IsOfKey columns (length (column_types schema)) key) (keyed key) out (run_own key rows out some own h)) h
+
+    -- what one merge leaves of rows of one key stays so where the change is made of both
+    pub one_stays : (key : List Value) (rows out : List Row) → 0 < length rows → All (IsTableRow schema) rows → All (λ r. key_of columns r ≡ key) rows → TableRun schema rows out → StaysLeft (TableRun schema) c rows out
+    one_stays key rows out some all same h = stays_left key rows out some (λ k d below. record { row = all k d below; same = same k d below }) h
 
     -- a row before and after others is one of three
     parted : (front rows back : List Row) → changed c (front ++ (rows ++ back)) ≡ changed c front ++ (changed c rows ++ changed c back)

@@ -1,10 +1,11 @@
 -- What folds make of values within the ranges of their types is within them.
-use Rattle.std.proofs.Common.{◌≡◌, ℕ, ℤ, pos, negsuc, ◌+◌, ◌<◌, ◌^◌, ◌%◌, Bool, true, false, List, [], ◌∷◌, ◌++◌, Option, None, Some, refl, sym, subst, arith, slice_get, unsigned_abs}
+use Rattle.std.proofs.Common.{◌≡◌, ℕ, ℤ, pos, negsuc, ◌+◌, ◌*◌, ◌<◌, ◌+ℤ◌, ◌∙◌, ◌^◌, ◌%◌, Bool, true, false, List, [], ◌∷◌, ◌++◌, Option, None, Some, refl, sym, ap, subst, arith, slice_get, unsigned_abs}
+use Rattle.std.proofs.Math.IntN.{+ℤ_idr}
 use Rattle.std.proofs.Math.Nat.{mod-lt}
-use Rattle.std.specs.Int.{int_rem_euclid, w8, w16, w32, w64}
+use Rattle.std.specs.Int.{int_rem_euclid, int_wrap, w8, w16, w32, w64}
 use Rattle.std.specs.Int.Bits.{and_lt, bit_and, bit_or, bit_xor}
 use Rattle.std.specs.List.{All, Contains, cons_option, fold, reduce}
-use Rattle.std.proofs.lemmas.Int.{SFits-int_wrap}
+use Rattle.std.proofs.lemmas.Int.{SFits-int_wrap, int_rem_euclid_is, int_wrap_fits, ints}
 use Rattle.std.proofs.lemmas.Nat.{or_lt, xor_lt}
 use Rattle.std.proofs.lemmas.List.Elements.{All-cons, All-contains, All-head, All-nil, All-tail, Contains-append_right}
 use Rattle.std.proofs.lemmas.Option.{get_or_from_slice_get, slice_get_within}
@@ -33,6 +34,25 @@ wrapped_fits (value.Int16 n) z = SFits-int_wrap w16 z
 wrapped_fits (value.Int32 n) z = SFits-int_wrap w32 z
 wrapped_fits (value.Int64 n) z = SFits-int_wrap w64 z
 wrapped_fits (value.Text bytes) z = tt
+
+-- the lowest bits of what is not below 0
+low_of_sum : (n a b : ℕ) → 0 < n → unsigned_abs (int_rem_euclid (pos a +ℤ pos b) (pos n)) ≡ (a + b) % n
+low_of_sum n a b some = ap unsigned_abs (int_rem_euclid_is (pos a +ℤ pos b) (pos n) n 0 (a + b) some refl (no_more a b (0 * n) (omega arith)))
+  where
+    no_more : (a b m : ℕ) → m ≡ 0 → (pos a +ℤ pos b) +ℤ pos m ≡ pos (a + b)
+    no_more a b m e = omega (arith, ints)
+
+-- a value of its type's range is its own sum
+pub sum_of_one : (v : Value) → FitsType v → v ≡ wrapped_as v (total (v ∷ []))
+sum_of_one (value.UInt8 n) fits = ap value.UInt8 (sym (low_of_sum (2 ^ 8) n 0 (omega arith) ∙ omega arith))
+sum_of_one (value.UInt16 n) fits = ap value.UInt16 (sym (low_of_sum (2 ^ 16) n 0 (omega arith) ∙ omega arith))
+sum_of_one (value.UInt32 n) fits = ap value.UInt32 (sym (low_of_sum (2 ^ 32) n 0 (omega arith) ∙ omega arith))
+sum_of_one (value.UInt64 n) fits = ap value.UInt64 (sym (low_of_sum (2 ^ 64) n 0 (omega arith) ∙ omega arith))
+sum_of_one (value.Int8 z) fits = ap value.Int8 (sym (ap (int_wrap w8) (+ℤ_idr z) ∙ int_wrap_fits w8 z fits))
+sum_of_one (value.Int16 z) fits = ap value.Int16 (sym (ap (int_wrap w16) (+ℤ_idr z) ∙ int_wrap_fits w16 z fits))
+sum_of_one (value.Int32 z) fits = ap value.Int32 (sym (ap (int_wrap w32) (+ℤ_idr z) ∙ int_wrap_fits w32 z fits))
+sum_of_one (value.Int64 z) fits = ap value.Int64 (sym (ap (int_wrap w64) (+ℤ_idr z) ∙ int_wrap_fits w64 z fits))
+sum_of_one (value.Text bytes) fits = refl
 
 -- numbers of this many bits are joined to such a number
 abbrev StaysWithin : (ℕ → ℕ → ℕ) → Type 0

@@ -1,16 +1,25 @@
 // The rule of an engine, as merges and reads with FINAL call it (docs/engines.md, "Merges").
-ghost use Rattle.std.specs.Prelude.{◌≡◌, ◌<◌, ◌++◌, ◌∷◌, [], ℕ, All, IfOk, List, OnOk, length};
+ghost use Rattle.std.specs.Prelude.{◌≡◌, ◌↔◌, ◌<◌, ◌++◌, ◌∷◌, [], ℕ, true, All, IfOk, List, OnOk, Option, length};
+ghost use Rattle.std.specs.List.{slice_index_or};
 ghost use Rattle.mt_model.specs.Folding.{ComesFrom, Leaves};
+ghost use Rattle.mt_model.specs.History.{IsTableSchema};
+ghost use Rattle.mt_model.specs.Mutations.{IsChangeOf};
+ghost use Rattle.mt_model.specs.Rules.{Run};
 ghost use Rattle.mt_values.specs.Grid.{AreRowsOf};
 ghost use Rattle.mt_values.specs.Order.{key_of};
-ghost use Rattle.mt_values.specs.Values.{Row};
+ghost use Rattle.mt_values.specs.Tables.{sorting_columns};
+ghost use Rattle.mt_values.specs.Values.{FitsType, Row};
 ghost use Rattle.mt_values.specs.declared.change.Change.{Change};
+ghost use Rattle.mt_values.specs.declared.engine.Aggregate.{Aggregate};
+ghost use Rattle.mt_values.specs.declared.engine.Engine.{Engine};
+ghost use Rattle.mt_values.specs.declared.schema.Schema.{Schema};
 ghost use Rattle.mt_values.specs.declared.value.ColType.{ColType};
 ghost use Rattle.mt_values.specs.declared.value.Value.{Value};
 ghost use Rattle.rule_law.specs.Changes.{StaysLeft};
+ghost use Rattle.rule_law.specs.TableRows.{IsTableOf, IsTableRow};
 
 use mt_base::NoMemory;
-use mt_values::Row;
+use mt_values::{Block, Row};
 use std::alloc::Global;
 
 /// What is left of the rows of one key, which are given one by one in their order.
@@ -30,8 +39,11 @@ pub trait RowRule {
     /// The rule leaves the columns at these places as they are.
     ghost apart: { Self → List ℕ → Type 0 };
 
-    /// The changes that the rule lets pass, where the sorting columns are at these places.
-    ghost lets: { Self → List ℕ → Change → Type 0 };
+    /// The engine whose rule it is.
+    ghost engine_of: { Self → Engine };
+
+    /// The functions of the table's columns, where the engine folds by them.
+    ghost functions: { Self → List (Option Aggregate) };
 
     /// A state of these rows.
     ghost holds: { Self → Self.State → List Row → Type 0 };
@@ -58,6 +70,25 @@ pub trait RowRule {
         ensures { IfOk result (λ out. (rows : List Row) → All (takes self.now) rows
             → holds self.now state rows → run self.now rows out.items) };
 
+    /// Whether a row of a block, with values in the ranges of their types, is all that is left of itself, where no other row has its key. It
+    /// need not be told of each such row.
+    fn stays_alone(&self, block: &Block, at: usize) -> bool
+        requires { at < length block.now.rows }
+        ensures { result ≡ true → All FitsType (slice_index_or block.now.rows at [])
+            → takes self.now (slice_index_or block.now.rows at [])
+            → run self.now (slice_index_or block.now.rows at [] ∷ [])
+            (slice_index_or block.now.rows at [] ∷ []) };
+
+    /// Whether a row of a block changes nothing of what is left, where it is the first of its key, and a row of another block the next;
+    /// whatever rows come after them. It need not be told of each such row.
+    fn gives_way(&self, block: &Block, at: usize, next: &Block, place: usize) -> bool
+        requires own { at < length block.now.rows }
+        requires other { place < length next.now.rows }
+        ensures { result ≡ true → (rows kept : List Row)
+            → run self.now (slice_index_or next.now.rows place [] ∷ rows) kept
+            → run self.now (slice_index_or block.now.rows at []
+            ∷ slice_index_or next.now.rows place [] ∷ rows) kept };
+
     /// Where rows agree in columns that are left as they are, what is left of them agrees with them there.
     ghost keeps: { (rule : Self) (places : List ℕ) (key : List Value) (rows out : List Row)
         → apart rule places → 0 < length rows → All (takes rule) rows
@@ -73,11 +104,16 @@ pub trait RowRule {
     ghost law: { (rule : Self) (rows x out : List Row) → 0 < length rows → All (takes rule) rows
         → ComesFrom (run rule) rows x → Leaves (run rule) x out → folds rule rows out };
 
-    /// A change that the rule lets pass makes of rows of one key, and of what is left of them, rows and what the rule may leave of
-    /// these; or it leaves no row on either side. So it may be made before or after merges.
-    ghost mutates: { (rule : Self) (places : List ℕ) (key : List Value) (types : List ColType)
-        (c : Change) (rows out : List Row) → lets rule places c → apart rule places
-        → 0 < length rows → All (takes rule) rows → AreRowsOf types rows
-        → All (λ r. key_of places r ≡ key) rows → run rule rows out
+    /// What one merge may leave is what the engine's definition lets it leave.
+    ghost runs: { (rule : Self) (rows out : List Row)
+        → run rule rows out ↔ Run (engine_of rule) (functions rule) rows out };
+
+    /// A change that the rows of a table of the engine may have makes of rows of one key, and of what is left of them, rows and what
+    /// the rule may leave of these; or it leaves no row on either side. So it may be made before or after merges.
+    ghost mutates: { (rule : Self) (schema : Schema) (c : Change) (key : List Value)
+        (rows out : List Row) → IsTableOf (engine_of rule) (functions rule) schema
+        → IsTableSchema schema → IsChangeOf schema c
+        → 0 < length rows → All (IsTableRow schema) rows
+        → All (λ r. key_of (sorting_columns schema) r ≡ key) rows → run rule rows out
         → StaysLeft (run rule) c rows out };
 }

@@ -5,11 +5,11 @@ ghost use Rattle.mt_values.specs.declared.engine.Engine.TheVariants as engine;
 ghost use Rattle.mt_values.specs.Order.{key_of};
 ghost use Rattle.mt_values.specs.Values.{types_of};
 ghost use Rattle.rule_law.proofs.AllRows.{plain_law};
-ghost use Rattle.rule_law.proofs.Changed.{plain_let};
 ghost use Rattle.rule_law.proofs.Kept.{plain_keeps};
+ghost use Rattle.rule_law.proofs.RuleChanged.{rule_stays};
 
 use mt_base::{NoMemory, Twin};
-use mt_values::Row;
+use mt_values::{Block, Row};
 use rule_law::RowRule;
 use std::alloc::Global;
 
@@ -36,9 +36,13 @@ impl RowRule for PlainRule {
 
     ghost law = { λ rule rows x out some takes comes leaves. plain_law rows x out some comes leaves };
 
-    ghost lets = { λ rule places c. Unit {0} };
+    ghost engine_of = { λ rule. engine.Plain };
 
-    ghost mutates = { λ rule places key types c rows out lets apart some taken typed same run. plain_let [] c rows out run };
+    ghost functions = { λ rule. [] };
+
+    ghost runs = { λ rule rows out. (λ run. run, λ run. run) };
+
+    ghost mutates = { λ rule. rule_stays engine.Plain [] };
 
     fn begin(&self, alloc: Global, row: &Row) -> Result<Vec<Row>, NoMemory> {
         let mut kept = Vec::new(alloc);
@@ -53,5 +57,13 @@ impl RowRule for PlainRule {
 
     fn end(&self, _alloc: Global, rows: Vec<Row>) -> Result<Vec<Row>, NoMemory> {
         Ok(rows)
+    }
+
+    fn stays_alone(&self, _block: &Block, _at: usize) -> bool {
+        true
+    }
+
+    fn gives_way(&self, _block: &Block, _at: usize, _next: &Block, _place: usize) -> bool {
+        false
     }
 }

@@ -1,19 +1,18 @@
 // ReplacingMergeTree: the last row of a key stays, or the last of those with the greatest version (docs/engines.md, "ReplacingMergeTree").
-ghost use Rattle.std.specs.Prelude.{◌≡◌, ◌∷◌, [], IsTrue, ◌↔◌, ◌≤◌, None, Some};
+ghost use Rattle.std.specs.Prelude.{◌≡◌, ◌<◌, ◌∷◌, [], IsTrue, ◌↔◌, ◌≤◌, None, Some, length};
+ghost use Rattle.std.specs.List.{slice_index_or};
 ghost use Rattle.rule_law.specs.mt_model.Rules.{Folds, Run};
 ghost use Rattle.mt_values.specs.declared.engine.Engine.TheVariants as engine;
 ghost use Rattle.mt_values.specs.Order.{key_of};
 ghost use Rattle.mt_values.specs.Values.{types_of};
 ghost use Rattle.rule_replacing.specs.Replaced.{replaces};
 ghost use Rattle.rule_law.proofs.Kept.{replacing_keeps};
-ghost use Rattle.rule_law.proofs.Letting.{replacing_let};
+ghost use Rattle.rule_law.proofs.RuleChanged.{rule_stays};
 ghost use Rattle.rule_law.proofs.OneRow.{replacing_law};
-ghost use Rattle.rule_law.specs.Changes.{IsLet};
-ghost use Rattle.rule_law.specs.mt_model.Mutations.{protects};
 
 use mt_base::{NoMemory, Twin};
-use mt_values::Row;
-use rule_law::{RowRule, version_of};
+use mt_values::{Block, Row};
+use rule_law::{RowRule, version_in, version_of};
 use std::alloc::Global;
 
 /// The rule of ReplacingMergeTree.
@@ -42,13 +41,13 @@ impl RowRule for ReplacingRule {
 
     ghost law = { λ rule rows x out some takes comes leaves. replacing_law rule.version rows x out some comes leaves };
 
-    ghost lets = { λ rule. IsLet (protects (engine.Replacing rule.version) []) };
+    ghost engine_of = { λ rule. engine.Replacing rule.version };
 
-    ghost mutates = { λ rule places key types c rows out lets apart some taken typed same run.
-        replacing_let places key types rows out some typed same
-        (replacing_keeps (λ r. types_of r ≡ types) rule.version rows out typed run)
-        (replacing_keeps (λ r. key_of places r ≡ key) rule.version rows out same run)
-        rule.version c lets run };
+    ghost functions = { λ rule. [] };
+
+    ghost runs = { λ rule rows out. (λ run. run, λ run. run) };
+
+    ghost mutates = { λ rule. rule_stays (engine.Replacing rule.version) [] };
 
     #[tactic(auto, using(crate::proofs::KeptRow::kept_first))]
     fn begin(&self, alloc: Global, row: &Row) -> Result<Row, NoMemory> {
@@ -68,6 +67,14 @@ impl RowRule for ReplacingRule {
         rows.push(kept)?;
         Ok(rows)
     }
+
+    fn stays_alone(&self, _block: &Block, _at: usize) -> bool {
+        true
+    }
+
+    fn gives_way(&self, block: &Block, at: usize, next: &Block, place: usize) -> bool {
+        replaces_in(self.version, block, at, next, place)
+    }
 }
 
 /// Whether a row that comes after the one that is kept is kept in its place: always without a version, else where its version is
@@ -79,4 +86,17 @@ fn replaces(version: Option<u32>, kept: &Row, row: &Row) -> bool
         None => true,
         Some(place) => version_of(kept, place) <= version_of(row, place),
     }
+}
+
+/// The same of rows of blocks, which are not made rows of their own.
+fn replaces_in(version: Option<u32>, block: &Block, at: usize, next: &Block, place: usize) -> bool
+    requires own { at < length block.now.rows }
+    requires other { place < length next.now.rows }
+    ensures { result ≡ replaces version (slice_index_or block.now.rows at [])
+        (slice_index_or next.now.rows place []) }
+{
+    let Some(column) = version else {
+        return true;
+    };
+    version_in(block, at, column) <= version_in(next, place, column)
 }

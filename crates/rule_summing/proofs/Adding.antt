@@ -1,6 +1,7 @@
 -- Sums after one row more.
 use Rattle.std.proofs.Common.{◌≡◌, ℕ, suc, ◌+◌, ◌<◌, ◌++◌, Bool, true, false, cond, nat_eq, List, [], ◌∷◌, None, Some, length, take, take_all, drop, set, get_or, slice_get, refl, sym, ap, ap₂, ◌∙◌, append_assoc, append-nil, arith, ◌+ℤ◌}
 use Rattle.std.proofs.Math.IntN.{+ℤ_idr}
+use Rattle.std.proofs.lemmas.List.Elements.{All-head, All-tail}
 use Rattle.std.proofs.lemmas.Option.{get_or_from_slice_get, slice_get_read}
 use Rattle.std.proofs.lemmas.List.{drop_all, drop_more, drop-set-lt, take_more_set}
 use Rattle.mt_values.specs.declared.value.ColType.{ColType}
@@ -9,10 +10,11 @@ use Rattle.mt_values.specs.declared.value.Value.{Value}
 use Rattle.mt_values.specs.declared.value.Value.TheVariants as value
 use Rattle.mt_values.specs.Grid.{column_of}
 use Rattle.mt_values.specs.Order.{rank_of}
-use Rattle.mt_values.specs.Values.{Row, type_of, types_of}
-use Rattle.rule_law.specs.mt_model.Rules.{integer_of, is_one_of, summed, total, with_sums, with_sums_from, wrapped_as}
+use Rattle.mt_values.specs.Values.{FitsType, Row, type_of, types_of}
+use Rattle.rule_law.specs.mt_model.Rules.{LeavesSums, are_zero, integer_of, is_one_of, summed, total, with_sums, with_sums_from, wrapped_as}
 use Rattle.rule_law.proofs.OneSign.{column_total}
 use Rattle.rule_law.proofs.OneSum.{all_one}
+use Rattle.rule_law.proofs.Ranges.{sum_of_one}
 use Rattle.rule_law.proofs.Summed.{type_at, value_at}
 use Rattle.mt_values.proofs.Wrapping.{wrapped_again, wrapped_twice, wrapped_type}
 use Rattle.std.specs.List.{All, cons_option}
@@ -152,3 +154,35 @@ sums_next places types rows row old sums all own h is =
 pub written : (count : ℕ) (old new : List Value) → length new ≡ length old → count ≡ length old → take count (new ++ drop (length new) old) ≡ new
 written count old new same is =
     ap (λ zs. take count (new ++ zs)) (drop_all (length new) old (omega arith)) ∙ ap (take count) (append-nil new) ∙ take_all count new (omega arith)
+
+-- ---- one row by itself
+
+-- its sums are its numbers
+alone_from : (places : List ℕ) (place : ℕ) (whole vs : Row) → ((i at : ℕ) (v : Value) → at ≡ place + i → slice_get vs i ≡ Some v → slice_get whole at ≡ Some v) → All FitsType vs
+    → with_sums_from place places (whole ∷ []) vs ≡ vs
+alone_from places place whole [] is fits = refl
+alone_from places place whole (v ∷ vs) is fits =
+    ap₂ (λ x xs. x ∷ xs) (one (is_one_of places place)) (alone_from places (place + 1) whole vs (λ i at u e found. is (suc i) at u (omega arith) found) (All-tail FitsType v vs fits))
+  where
+    here : slice_get whole place ≡ Some v
+    here = is 0 place v (omega arith) refl
+
+    one : (b : Bool) → summed b v (column_of place (whole ∷ [])) ≡ v
+    one false = refl
+    one true = ap (λ o. wrapped_as v (total (cons_option o []))) here ∙ sym (sum_of_one v (All-head FitsType v vs fits))
+
+-- it is left as it is, where they are not all 0
+pub sums_alone : (places : List ℕ) (row : Row) → All FitsType row → are_zero places row ≡ false → LeavesSums places (row ∷ []) (row ∷ [])
+sums_alone places row fits some = record {
+  earlier = [];
+  carried = row;
+  later = [];
+  rows_are = refl;
+  out_is = sym (ap (λ r. cond (are_zero places r) [] (r ∷ [])) same ∙ ap (λ b. cond b [] (row ∷ [])) some);
+}
+  where
+    plain : (i at : ℕ) → at ≡ 0 + i → at ≡ i
+    plain i at is = omega arith
+
+    same : with_sums places (row ∷ []) row ≡ row
+    same = alone_from places 0 row row (λ i at v is found. ap (slice_get row) (plain i at is) ∙ found) fits

@@ -3,15 +3,13 @@ ghost use Rattle.std.specs.Prelude.{◌≡◌, [], All, false};
 ghost use Rattle.rule_law.specs.mt_model.Rules.{Folds, Run, is_one_of};
 ghost use Rattle.mt_values.specs.Values.{types_of};
 ghost use Rattle.mt_values.specs.declared.engine.Engine.TheVariants as engine;
-ghost use Rattle.rule_law.proofs.Letting.{summing_let};
+ghost use Rattle.rule_law.proofs.RuleChanged.{rule_stays};
 ghost use Rattle.rule_law.proofs.OneSum.{summing_keeps, summing_law, summing_types};
-ghost use Rattle.rule_law.specs.Changes.{IsLet};
-ghost use Rattle.rule_law.specs.mt_model.Mutations.{protects};
 ghost use Rattle.rule_summing.specs.Summed.{HasSums};
 
-use crate::sums::{add_row, are_zero, clear_row};
+use crate::sums::{add_row, are_zero, are_zero_in, clear_row};
 use mt_base::{NoMemory, Seq, Twin};
-use mt_values::{ColType, Row, Value};
+use mt_values::{Block, ColType, Row, Value};
 use rule_law::RowRule;
 use std::alloc::Global;
 
@@ -49,13 +47,13 @@ impl RowRule for SummingRule {
     ghost law = { λ rule rows x out some takes comes leaves.
         summing_law rule.places rule.types rows x out some takes comes leaves };
 
-    ghost lets = { λ rule. IsLet (protects (engine.Summing rule.places) []) };
+    ghost engine_of = { λ rule. engine.Summing rule.places };
 
-    ghost mutates = { λ rule places key types c rows out lets apart some taken typed same run.
-        summing_let places key types rows out some typed same
-        (summing_types rule.places types rows out typed run)
-        (summing_keeps rule.places rule.types places key rows out apart same run)
-        rule.places c lets run };
+    ghost functions = { λ rule. [] };
+
+    ghost runs = { λ rule rows out. (λ run. run, λ run. run) };
+
+    ghost mutates = { λ rule. rule_stays (engine.Summing rule.places) [] };
 
     // The first row's numbers are added as those of the others are: to the sums of no rows.
     fn begin(&self, alloc: Global, row: &Row) -> Result<Vec<Value>, NoMemory> {
@@ -78,5 +76,13 @@ impl RowRule for SummingRule {
         }
         rows.push(Seq::of(sums))?;
         Ok(rows)
+    }
+
+    fn stays_alone(&self, block: &Block, at: usize) -> bool {
+        !are_zero_in(block, at, self.places.as_slice())
+    }
+
+    fn gives_way(&self, _block: &Block, _at: usize, _next: &Block, _place: usize) -> bool {
+        false
     }
 }
