@@ -1,4 +1,4 @@
--- What is asked of the pairs of one table.
+-- What is asked of the pairs of all tables, and of one.
 use Rattle.std.specs.Prelude.{ℕ, ◌<◌, List}
 use Rattle.mt_base.specs.declared.partition.Partition.{Partition}
 use Rattle.mt_values.specs.declared.mutation.Mutation.{Mutation}
@@ -6,7 +6,12 @@ use Rattle.mutation_queue.specs.Queue.{mutations_of}
 use Rattle.mutation_queue.specs.part_set.declared.kept.Kept.{Kept}
 use Rattle.mutation_queue.specs.part_set.Parts.{kept_in, partition_rank}
 use Rattle.merge_select.specs.declared.pairs.Wish.{Wish}
-use Rattle.merge_select.specs.Picks.{Chooses, MayTake}
+use Rattle.merge_select.specs.declared.picking.Choosing.{Choosing}
+use Rattle.merge_select.specs.Picks.{Choice, Chooses, MayTake}
+
+-- what is chosen from, by how many rows each part has
+abbrev pub choice_of : {P : Type 0} → (P → ℕ) → Choosing P → Choice P
+choice_of count choosing = record { set = choosing.set.now; queue = choosing.queue.now; count = count; policy = choosing.policy }
 
 -- the mutations of the table
 abbrev pub wished_of : Wish → List Mutation

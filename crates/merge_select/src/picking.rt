@@ -5,13 +5,21 @@ ghost use Rattle.mutation_queue.specs.part_set.Parts.{kept_in};
 ghost use Rattle.mutation_queue.specs.part_set.Shelf.{all_parts};
 ghost use Rattle.mutation_queue.specs.declared.scope.Scope.TheVariants as scopes;
 ghost use Rattle.merge_select.specs.Picks.{IsPick, NoneIn};
-ghost use Rattle.merge_select.specs.Wishes.{IsFirstOfTable, TakesAt};
+ghost use Rattle.merge_select.specs.Wishes.{IsFirstOfTable, TakesAt, choice_of};
 
 use crate::Pick;
 use crate::pairs::{Wish, pick_in};
 use mt_base::{Name, Partition, Policy, Rows};
 use mutation_queue::part_set::{PartSet, Run, TableParts};
 use mutation_queue::{Mutations, Scope};
+
+/// What is chosen from, and how.
+#[derive(Drop)]
+struct Choosing<'s, 'q, P> {
+    set: &'s PartSet<P>,
+    queue: &'q Mutations,
+    policy: Policy,
+}
 
 // The pair at this place of a partition.
 fn pair_at<'a>(table: &'a Name, partition: Partition, first: usize) -> Pick<'a>
@@ -45,29 +53,15 @@ fn pick_in_table<P: Rows>(wish: &Wish, table: &TableParts<P>) -> Option<(Partiti
 }
 
 // The pair of the first table that has one.
-fn pick_of_all<'a, P: Rows>(
-    set: &'a PartSet<P>,
-    queue: &Mutations,
-    policy: Policy,
-) -> Option<Pick<'a>>
-    ensures none { IfNone result (NoneIn (record {
-      set = set.now;
-      queue = queue.now;
-      count = P.row_count;
-      policy = policy;
-    }) scopes.All) }
-    ensures some { IfSome result (IsPick (record {
-      set = set.now;
-      queue = queue.now;
-      count = P.row_count;
-      policy = policy;
-    }) scopes.All) }
+fn pick_of_all<'s, P: Rows>(choosing: &Choosing<'s, '_, P>) -> Option<Pick<'s>>
+    ensures none { IfNone result (NoneIn (choice_of P.row_count choosing.now) scopes.All) }
+    ensures some { IfSome result (IsPick (choice_of P.row_count choosing.now) scopes.All) }
 {
-    for (table, parts) in set.tables() {
+    for (table, parts) in choosing.set.tables() {
         let wish = Wish {
-            queue,
+            queue: choosing.queue,
             table,
-            policy,
+            policy: choosing.policy,
         };
         if let Some((partition, first)) = pick_in_table(&wish, parts) {
             return Some(pair_at(table, partition, first));
@@ -77,62 +71,39 @@ fn pick_of_all<'a, P: Rows>(
 }
 
 // The pair of the first partition of the table that has one.
-fn pick_of_table<'a, P: Rows>(
-    set: &PartSet<P>,
-    queue: &Mutations,
-    policy: Policy,
-    table: &'a Name,
-) -> Option<Pick<'a>>
-    ensures none { IfNone result (NoneIn (record {
-      set = set.now;
-      queue = queue.now;
-      count = P.row_count;
-      policy = policy;
-    }) (scopes.Table table.entry)) }
-    ensures some { IfSome result (IsPick (record {
-      set = set.now;
-      queue = queue.now;
-      count = P.row_count;
-      policy = policy;
-    }) (scopes.Table table.entry)) }
+fn pick_of_table<'a, P: Rows>(choosing: &Choosing<P>, table: &'a Name) -> Option<Pick<'a>>
+    ensures none { IfNone result (NoneIn (choice_of P.row_count choosing.now)
+        (scopes.Table table.entry)) }
+    ensures some { IfSome result (IsPick (choice_of P.row_count choosing.now)
+        (scopes.Table table.entry)) }
 {
     let wish = Wish {
-        queue,
+        queue: choosing.queue,
         table,
-        policy,
+        policy: choosing.policy,
     };
-    let parts = set.table(table)?;
+    let parts = choosing.set.table(table)?;
     let (partition, first) = pick_in_table(&wish, parts)?;
     Some(pair_at(table, partition, first))
 }
 
 // The pair of the partition.
 fn pick_of_partition<'a, P: Rows>(
-    set: &PartSet<P>,
-    queue: &Mutations,
-    policy: Policy,
+    choosing: &Choosing<P>,
     table: &'a Name,
     partition: Partition,
 ) -> Option<Pick<'a>>
-    ensures none { IfNone result (NoneIn (record {
-      set = set.now;
-      queue = queue.now;
-      count = P.row_count;
-      policy = policy;
-    }) (scopes.Partition table.entry partition)) }
-    ensures some { IfSome result (IsPick (record {
-      set = set.now;
-      queue = queue.now;
-      count = P.row_count;
-      policy = policy;
-    }) (scopes.Partition table.entry partition)) }
+    ensures none { IfNone result (NoneIn (choice_of P.row_count choosing.now)
+        (scopes.Partition table.entry partition)) }
+    ensures some { IfSome result (IsPick (choice_of P.row_count choosing.now)
+        (scopes.Partition table.entry partition)) }
 {
     let wish = Wish {
-        queue,
+        queue: choosing.queue,
         table,
-        policy,
+        policy: choosing.policy,
     };
-    let first = pick_in(&wish, set.parts_in(table, partition))?;
+    let first = pick_in(&wish, choosing.set.parts_in(table, partition))?;
     Some(pair_at(table, partition, first))
 }
 
@@ -158,11 +129,10 @@ pub fn pick<'a, P: Rows>(
       policy = policy;
     }) scope.entry) }
 {
+    let choosing = Choosing { set, queue, policy };
     match scope {
-        Scope::All => pick_of_all(set, queue, policy),
-        Scope::Table(table) => pick_of_table(set, queue, policy, table),
-        Scope::Partition(table, partition) => {
-            pick_of_partition(set, queue, policy, table, partition)
-        }
+        Scope::All => pick_of_all(&choosing),
+        Scope::Table(table) => pick_of_table(&choosing, table),
+        Scope::Partition(table, partition) => pick_of_partition(&choosing, table, partition),
     }
 }
