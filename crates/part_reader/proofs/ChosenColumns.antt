@@ -1,5 +1,5 @@
 -- Columns that get the values of chosen granules, run by run.
-use Rattle.std.proofs.Common.{◌≡◌, ℕ, ◌+◌, ◌-◌, ◌*◌, ◌<◌, ◌≤◌, inl, inr, Bool, true, false, List, [], ◌∷◌, ◌++◌, Option, Some, refl, sym, ap, ap₂, ◌∙◌, subst, length, length-append, take, get_or, map, slice_get, slice_range, filter_map, All, arith, append_assoc, append-nil, replicate, Result, Ok, Err, OnOk}
+use Rattle.std.proofs.Common.{◌≡◌, ℕ, ◌+◌, ◌-◌, ◌*◌, ◌<◌, ◌≤◌, inl, inr, Bool, true, false, List, [], ◌∷◌, ◌++◌, Option, Some, None, refl, sym, ap, ap₂, ◌∙◌, subst, length, length-append, take, get_or, map, slice_get, slice_range, filter_map, All, arith, append_assoc, append-nil, replicate, Result, Ok, Err, OnOk}
 use Rattle.std.specs.Int.{div_ceil}
 use Rattle.std.specs.List.{range_with_len}
 use Rattle.std.specs.Option.{option_and_then}
@@ -33,12 +33,12 @@ use Rattle.part_reader.specs.declared.reading.PartFault.{PartFault}
 use Rattle.part_reader.specs.declared.reading.PartFault.TheVariants.{Fault, NoMemory, Damaged}
 use Rattle.part_reader.specs.declared.runs.Run.{Run}
 use Rattle.part_reader.specs.Columns.{AreEach}
-use Rattle.part_reader.specs.Faults.{ExplainsEach, IsNoDamage, fault_after}
-use Rattle.part_reader.specs.Granules.{ExplainsChosen, ExplainsRun, GainsChosen, HoldsValues, IsChosenRun, IsRunAdded, IsRunRead, IsSpanOf, IsSpanRead, PartColumn, chosen_count, chosen_of, column_in, place_of, rows_in, values_in}
+use Rattle.part_reader.specs.Faults.{IsNoDamage, fault_after}
+use Rattle.part_reader.specs.Granules.{ExplainsRun, GainsChosen, HoldsValues, IsChosenRun, IsRunAdded, IsRunRead, IsSpanOf, IsSpanRead, PartColumn, chosen_count, chosen_of, column_in, place_of, rows_in, values_in}
 use Rattle.part_reader.specs.Parts.{HoldsAt, with_columns}
 use Rattle.part_reader.proofs.ChosenItems.{chosen_run, chosen_skip, column_chosen, count_run, run_length, run_since}
 use Rattle.part_reader.proofs.SameLists.{mapped_at}
-use Rattle.part_reader.proofs.Holding.{AreTyped, columns_held, columns_within, each_typed, misread_explained, type_there}
+use Rattle.part_reader.proofs.Holding.{AreTyped, columns_held, columns_within, each_typed, misread_explained}
 
 -- ---- a run of a column that holds values
 
@@ -112,7 +112,7 @@ module _ (c : PartColumn) (chosen : List Bool) where
     values = λ values h. ap (λ (vs : List Value). record old { values = vs }) (sym (append-nil old.values));
   }
 
-  pub gains_run : (run : Run) (old now new : Cells) → GainsChosen c (take run.first chosen) old now → IsRunRead c run now new → IsChosenRun chosen run → GainsChosen c (take (run.first + run.count) chosen) old new
+  pub gains_run : (run : Run) (old now new : Cells) → GainsChosen c (take run.first chosen) old now → IsRunRead c run None now new → IsChosenRun chosen run → GainsChosen c (take (run.first + run.count) chosen) old new
   gains_run run old now new before read is =
       let type_is : new.col_type ≡ now.col_type = ap (λ (x : Cells). x.col_type) read.gained.gained in
       let long : length new.values ≡ length now.values + length read.gained.values = ap (λ (x : Cells). length x.values) read.gained.gained ∙ length-append now.values read.gained.values in
@@ -129,7 +129,7 @@ module _ (c : PartColumn) (chosen : List Bool) where
       }
 
   -- the same of a run that may be empty
-  pub gains_added : (run : Run) (old now new : Cells) → GainsChosen c (take run.first chosen) old now → IsRunAdded c run now new → IsChosenRun chosen run → GainsChosen c (take (run.first + run.count) chosen) old new
+  pub gains_added : (run : Run) (old now new : Cells) → GainsChosen c (take run.first chosen) old now → IsRunAdded c run None now new → IsChosenRun chosen run → GainsChosen c (take (run.first + run.count) chosen) old new
   gains_added run old now new before (inr read) is = gains_run run old now new before read is
   gains_added run old now new before (inl empty) is =
       let none : run.count ≡ 0 = empty.0 in
@@ -144,7 +144,7 @@ module _ (c : PartColumn) (chosen : List Bool) where
 
   -- up to a granule that is not chosen
   pub gains_over : (first granule : ℕ) (old now new : Cells) → first ≤ granule → granule < length chosen → get_or chosen granule false ≡ false → take granule chosen ≡ take first chosen ++ replicate (granule - first) true → GainsChosen c (take first chosen) old now
-      → IsRunAdded c (record { first = first; count = granule - first }) now new → GainsChosen c (take (granule + 1) chosen) old new
+      → IsRunAdded c (record { first = first; count = granule - first }) None now new → GainsChosen c (take (granule + 1) chosen) old new
   gains_over first granule old now new before below not run gained read =
       let this : Run = record { first = first; count = granule - first } in
       let is : IsChosenRun chosen this = run_since chosen this granule before (omega (arith, below)) refl run in
@@ -152,7 +152,7 @@ module _ (c : PartColumn) (chosen : List Bool) where
 
   -- up to the last one
   pub gains_last : (first granule count : ℕ) (old now new : Cells) (result : Result (Unit {0}) PartFault) → first ≤ granule → granule ≡ length chosen → count ≡ granule - first → take granule chosen ≡ take first chosen ++ replicate (granule - first) true → GainsChosen c (take first chosen) old now
-      → OnOk result (IsRunAdded c (record { first = first; count = count }) now new) → OnOk result (GainsChosen c chosen old new)
+      → OnOk result (IsRunAdded c (record { first = first; count = count }) None now new) → OnOk result (GainsChosen c chosen old new)
   gains_last first granule count old now new (Err e) before end counted run gained read = tt
   gains_last first granule count old now new (Ok x) before end counted run gained read =
       let this : Run = record { first = first; count = count } in
@@ -175,16 +175,14 @@ module _ {F : Type 0} (files_of : F → Option Files) (schema : Schema) (part : 
         places = mapped_at (λ column. marks_of schema.granularity (column_of column rows)) (length schema.columns) place (omega (arith, below, types_length schema));
       })
 
-  -- nothing of them is damaged
-  pub chosen_sound : (chosen : List Bool) (columns : List Cells) (fault : PartFault) → length chosen ≡ granules part.loaded.schema.granularity part.loaded.manifest.rows → map (λ (c : Cells). c.col_type) columns ≡ filter_map (slice_get (column_types schema)) places
-      → ExplainsEach (λ number t. ExplainsChosen (column_in files_of part number) chosen t) places columns fault → IsNoDamage fault
-  chosen_sound chosen columns fault counted typed why =
-      let types = each_typed (column_types schema) places columns (columns_within files_of schema part places rows h) typed in
-      let here : slice_get (column_types schema) why.number ≡ Some why.column.col_type = type_there (column_types schema) places columns why.at why.number why.column types why.number_is why.column_is in
-      let held : bytes_of (file.Column why.number) h.files ≡ column_bytes (column_of why.number rows) =
-      subst (λ p. bytes_of (file.Column p) h.files ≡ column_bytes (column_of p rows)) (get_or_from_slice_get places why.at why.number 0 why.number_is)
-      (columns_held files_of schema part places rows h why.at 0 (slice_get_within places why.at why.number why.number_is)) in
-      no_run_damage (column_in files_of part why.number) why.column.col_type (column_of why.number rows) (held_column why.number why.column.col_type here held) why.explained.run fault (omega (arith, why.explained.run_is.within, counted)) why.explained.explained
+  -- nothing of a run of one of them is damaged
+  pub run_sound : (at number : ℕ) (t : ColType) (run : Run) (fault : PartFault) → slice_get places at ≡ Some number → slice_get (column_types schema) number ≡ Some t → run.first + run.count ≤ granules part.loaded.schema.granularity part.loaded.manifest.rows
+      → ExplainsRun (column_in files_of part number) run t fault → IsNoDamage fault
+  run_sound at number t run fault number_is type_is within why =
+      let held : bytes_of (file.Column number) h.files ≡ column_bytes (column_of number rows) =
+      subst (λ p. bytes_of (file.Column p) h.files ≡ column_bytes (column_of p rows)) (get_or_from_slice_get places at number 0 number_is)
+      (columns_held files_of schema part places rows h at 0 (slice_get_within places at number number_is)) in
+      no_run_damage (column_in files_of part number) t (column_of number rows) (held_column number t type_is held) run fault within why
 
   gained_each : (g : ℕ) (chosen : List Bool) (ps : List ℕ) (olds news : List Cells) → g ≡ part.loaded.schema.granularity → All (λ place. bytes_of (file.Column place) h.files ≡ column_bytes (column_of place rows)) ps → AreTyped (column_types schema) ps olds
       → AreEach (λ place. GainsChosen (column_in files_of part place) chosen) ps olds news → news ≡ with_columns (chosen_of g chosen rows) ps olds

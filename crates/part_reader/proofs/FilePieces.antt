@@ -36,7 +36,7 @@ span_more told files file start at place count next front buf rest new known rea
     ap (λ m. take m (drop start bytes)) n ∙ take-add at count (drop start bytes) ∙ ap₂ ◌++◌ so_far (piece ∙ sym own) ∙ sym e
 
 -- no more is read than stands between them
-pub span_within : (at before size most count next : ℕ) (buf rest : List ℕ) → next ≡ at + length (take count (buf ++ rest)) → count ≤ length buf → length buf ≤ most → most ≡ min (size - before) 65536 → before ≡ at → at ≤ size → next ≤ size
-span_within at before size most count next buf rest more bound room is same within =
+pub span_within : (at before size room most count next : ℕ) (buf rest : List ℕ) → next ≡ at + length (take count (buf ++ rest)) → count ≤ length buf → length buf ≤ most → most ≡ min (size - before) room → before ≡ at → at ≤ size → next ≤ size
+span_within at before size room most count next buf rest more bound long is same within =
     let own : length (take count (buf ++ rest)) ≡ min count (length buf) = ap length (take-append-le count buf rest bound) ∙ length-take count buf in
-    omega (arith, more, own, bound, room, is, same, within)
+    omega (arith, more, own, bound, long, is, same, within)

@@ -11,27 +11,25 @@ use Rattle.mt_base.specs.declared.name.FileId.TheVariants as file
 use Rattle.mt_values.specs.declared.schema.Schema.{Schema}
 use Rattle.mt_values.specs.declared.value.ColType.{ColType}
 use Rattle.mt_values.specs.declared.value.Value.{Value}
-use Rattle.mt_values.specs.ColumnBytes.{column_bytes}
 use Rattle.mt_values.specs.Grid.{Cells, Grid, column_of, rows_of}
 use Rattle.mt_values.specs.Printing.{selected}
 use Rattle.mt_values.specs.Schemas.{column_types}
 use Rattle.mt_values.specs.Values.{Row}
-use Rattle.mt_outside.specs.Files.{Files, bytes_of}
+use Rattle.mt_outside.specs.Files.{Files}
 use Rattle.part_damage.specs.column_file.Marks.{granules}
 use Rattle.part_damage.specs.part_writer.declared.loaded.Loaded.{Loaded}
 use Rattle.part_reader.specs.declared.reading.Part.{Part}
 use Rattle.part_reader.specs.declared.reading.PartFault.{PartFault}
 use Rattle.part_reader.specs.declared.reading.PartFault.TheVariants.{Fault, NoMemory, Damaged}
-use Rattle.part_reader.specs.Faults.{ExplainsAt, ExplainsEach, IsNoDamage}
+use Rattle.part_reader.specs.Faults.{ExplainsAt}
 use Rattle.part_reader.specs.Granules.{ExplainsChosen, ExplainsRun, GainsChosen, IsChosenRun, IsRunAdded, PartColumn, chosen_count, chosen_of, column_in, rows_in}
 use Rattle.part_reader.specs.Parts.{HoldsAt}
-use Rattle.part_reader.specs.Picks.{GainsPicked, IsPickAdded}
+use Rattle.part_reader.specs.Picks.{GainsPicked}
 use Rattle.part_reader.specs.Readings.{AreGranuleColumns, ExplainsLeft, GivesGranule, GivesNext, IsFirstLeft, LeavesRows, Reading, count_left, from_granule, granule_items, lone, lone_chosen, rows_left}
-use Rattle.part_reader.proofs.ChosenColumns.{chosen_even, chosen_rows, chosen_types, gains_added, held_column, no_run_damage}
+use Rattle.part_reader.proofs.ChosenColumns.{chosen_even, chosen_rows, chosen_types, gains_added}
 use Rattle.part_reader.proofs.ChosenItems.{chosen_append, chosen_length, chosen_run, run_length}
 use Rattle.part_reader.proofs.CutRows.{count_more, count_skip, empty_even, rows_cut, with_empty}
 use Rattle.part_reader.proofs.PickedValues.{picks_added}
-use Rattle.part_reader.proofs.Holding.{columns_held, columns_within, each_typed, type_there}
 
 -- ---- granules of a choice
 
@@ -182,7 +180,7 @@ rows_within loaded granule some = either (cases_lt granule (granules g n))
 
 -- ---- one granule of a column
 
-pub gains_lone : (c : PartColumn) (granule : ℕ) (old new : Cells) → IsRunAdded c (lone granule) old new → GainsChosen c (lone_chosen granule) old new
+pub gains_lone : (c : PartColumn) (granule : ℕ) (old new : Cells) → IsRunAdded c (lone granule) None old new → GainsChosen c (lone_chosen granule) old new
 gains_lone c granule old new read =
     let g = c.loaded.schema.granularity in
     let single = lone_chosen granule in
@@ -211,7 +209,7 @@ lone_there granule =
     front n = let none : n - n ≡ 0 = omega arith in ap (λ k. get_or (true ∷ []) k false) none
 
 -- the same of the wanted rows of a granule
-pub picks_lone : (c : PartColumn) (granule : ℕ) (mask : List Bool) (old new : Cells) → IsPickAdded c (lone granule) mask old new → length mask ≡ rows_in c.loaded (lone granule) → GainsPicked c (lone_chosen granule) mask old new
+pub picks_lone : (c : PartColumn) (granule : ℕ) (mask : List Bool) (old new : Cells) → IsRunAdded c (lone granule) (Some mask) old new → length mask ≡ rows_in c.loaded (lone granule) → GainsPicked c (lone_chosen granule) mask old new
 picks_lone c granule mask old new read even =
     let g = c.loaded.schema.granularity in
     let single = lone_chosen granule in
@@ -227,18 +225,7 @@ picks_lone c granule mask old new read even =
     subst (λ cs. GainsPicked c cs mask old new) (take_all (granule + 1) single (omega (arith, long)))
     (picks_added c single (lone granule) [] mask old old new nothing read (lone_run single granule (lone_there granule)) none even)
 
--- nothing of it is damaged where the part holds rows
 module _ {F : Type 0} (files_of : F → Option Files) (schema : Schema) (part : Part F) (places : List ℕ) (rows : List Row) (h : HoldsAt files_of schema part (map file.Column places) rows) where
-  pub lone_sound : (granule : ℕ) (columns : List Cells) (fault : PartFault) → granule < granules part.loaded.schema.granularity part.loaded.manifest.rows → map (λ (c : Cells). c.col_type) columns ≡ filter_map (slice_get (column_types schema)) places
-      → ExplainsEach (λ number t. ExplainsRun (column_in files_of part number) (lone granule) t) places columns fault → IsNoDamage fault
-  lone_sound granule columns fault within typed why =
-      let types = each_typed (column_types schema) places columns (columns_within files_of schema part places rows h) typed in
-      let here : slice_get (column_types schema) why.number ≡ Some why.column.col_type = type_there (column_types schema) places columns why.at why.number why.column types why.number_is why.column_is in
-      let held : bytes_of (file.Column why.number) h.files ≡ column_bytes (column_of why.number rows) =
-      subst (λ p. bytes_of (file.Column p) h.files ≡ column_bytes (column_of p rows)) (get_or_from_slice_get places why.at why.number 0 why.number_is)
-      (columns_held files_of schema part places rows h why.at 0 (slice_get_within places why.at why.number why.number_is)) in
-      no_run_damage (column_in files_of part why.number) why.column.col_type (column_of why.number rows) (held_column files_of schema part places rows h why.number why.column.col_type here held) (lone granule) fault (omega (arith, within)) why.explained
-
   -- ---- what is given
 
   counted : length rows ≡ part.loaded.manifest.rows
@@ -349,9 +336,9 @@ granule_within g n number below = either (cases_lt 0 g)
 
 -- ---- what a call gives
 
-module _ {F : Type 0} (files_of : F → Option Files) (schema : Schema) (part : Part F) (places : List ℕ) where
+module _ {F : Type 0} (files_of : F → Option Files) (schema : Schema) (part : Part F) (places : List ℕ) (most : ℕ) where
   abbrev pub reading : List Bool → Reading F
-  reading left = record { schema = schema; part = part; places = places; left = left }
+  reading left = record { schema = schema; part = part; places = places; left = left; most = most }
 
   -- a block of the first granule that is left is given, and those after it are left
   pub gives_block : (chosen : List Bool) (at granule : ℕ) (block : Grid) → at ≤ granule → IsFirstLeft part.loaded (from_granule at chosen) granule → length block.rows ≡ rows_in part.loaded (lone granule)
@@ -416,8 +403,8 @@ pub record HasGiven {F : Type 0} (files_of : F → Option Files) (schema : Schem
   pub count : length given + count_left r ≡ chosen_count part.loaded.schema.granularity chosen part.loaded.manifest.rows
 
 module _ {F : Type 0} (files_of : F → Option Files) (schema : Schema) (part : Part F) (places : List ℕ) (chosen : List Bool) where
-  pub given_none : (r : Reading F) → r ≡ record { schema = schema; part = part; places = places; left = chosen } → HasGiven files_of schema part places chosen r []
-  given_none r is = record {
+  pub given_none : (most : ℕ) (r : Reading F) → r ≡ record { schema = schema; part = part; places = places; left = chosen; most = most } → HasGiven files_of schema part places chosen r []
+  given_none most r is = record {
     schema_is = ap (λ (x : Reading F). x.schema) is;
     part_is = ap (λ (x : Reading F). x.part) is;
     places_are = ap (λ (x : Reading F). x.places) is;

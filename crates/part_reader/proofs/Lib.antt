@@ -9,6 +9,7 @@ pub mod DamagedFiles
 pub mod Damages
 pub mod FilePieces
 pub mod Gaining
+pub mod HeldColumns
 pub mod HeldRows
 pub mod Holding
 pub mod IndexedBlocks

@@ -1,9 +1,8 @@
 -- Where granules of values begin, as a walk over a column's bytes finds them value by value.
-use Rattle.std.proofs.Common.{◌≡◌, ℕ, zero, suc, ◌+◌, ◌-◌, ◌*◌, ◌<◌, ◌≤◌, ◌⊎◌, inl, inr, List, [], ◌∷◌, ◌++◌, Option, Some, None, IfSome, Result, Ok, Err, IfOk, IfErr, MatchResult, refl, sym, ap, ap₂, ◌∙◌, subst, length, length-append, map, take, drop, get_or, slice_get, filter_map, All, arith, suc-mul, mul_comm, mul-zero, zero-add, mul-le-mul_right}
+use Rattle.std.proofs.Common.{◌≡◌, ℕ, zero, suc, ◌+◌, ◌-◌, ◌*◌, ◌<◌, ◌≤◌, List, [], ◌∷◌, ◌++◌, Option, Some, None, IfSome, Result, Ok, Err, IfOk, IfErr, MatchResult, refl, sym, ap, ap₂, ◌∙◌, subst, length, length-append, map, take, drop, get_or, slice_get, filter_map, All, arith, suc-mul, mul_comm, mul-zero, zero-add, mul-le-mul_right}
 use Rattle.std.specs.Int.{div_ceil}
 use Rattle.std.specs.List.{cons_option, range_with_len}
 use Rattle.std.specs.Option.{option_map}
-use Rattle.std.proofs.lemmas.Bool.{cases_lt}
 use Rattle.std.proofs.lemmas.Grind.{div_ceil_times}
 use Rattle.std.proofs.lemmas.List.{length_push, take-append-le, take_all}
 use Rattle.std.proofs.lemmas.List.FromFn.{map-range_with_len_more}
@@ -21,6 +20,7 @@ use Rattle.part_damage.specs.column_file.Faults.{Explains, IsFirstFault, NoneBeg
 use Rattle.part_damage.specs.column_file.Granules.{granule_start, marks_of}
 use Rattle.part_damage.specs.column_file.Marks.{granules, with_final}
 use Rattle.part_damage.specs.column_file.Spellings.{IsOfType}
+use Rattle.mt_values.proofs.Covers.{same_count}
 use Rattle.part_damage.proofs.ColumnFileReading.{AreRead, read_all, read_more, read_none, read_past, read_stuck, read_within}
 use Rattle.part_damage.proofs.PrimaryMarksKeysRead.{slice_get-push_new, slice_get-push_old}
 use Rattle.part_damage.proofs.PrimaryMarksMarkedRows.{last_only, map_on_range, starts_more}
@@ -100,20 +100,6 @@ none_begun g found some s f =
 
 -- ---- all values
 
--- numbers of granules that cover the values, the last of them begun, are one number
-one_count : (a b m n : ℕ) → a ≤ m * b → m * b < a + b → a ≤ n * b → n * b < a + b → m ≡ n
-one_count a b m n p q r s = either (cases_lt m n) (cases_lt n m)
-  where
-    less : (x y : ℕ) → x < y → a ≤ x * b → y * b < a + b → ⊥
-    less x y h low high =
-        let room : suc x * b ≤ y * b = mul-le-mul_right b h in
-        omega (arith, suc-mul x b)
-
-    either : (m < n) ⊎ (n ≤ m) → (n < m) ⊎ (m ≤ n) → m ≡ n
-    either (inl h) other = absurd (less m n h p s)
-    either (inr h) (inl k) = absurd (less n m k r q)
-    either (inr h) (inr k) = omega arith
-
 last_option : {X : Type 0} (xs : List X) (o : Option X) → slice_get xs (length xs - 1) ≡ o → cons_option o [] ≡ drop (length xs - 1) xs
 last_option xs (Some x) e = sym (last_only xs x e)
 last_option [] None e = refl
@@ -128,7 +114,7 @@ module _ (g : ℕ) (values : List Value) (found : ColumnMarks) (left : ℕ) (som
       let k = length found.starts in
       let flip = mul_comm k g in
       let ceil = div_ceil_times (length values) g some in
-      one_count (length values) g k (div_ceil (length values) g) (omega (arith, b.count_is)) (omega (arith, b.count_is, b.few)) ceil.0 ceil.1
+      same_count (length values) g k (div_ceil (length values) g) (omega (arith, b.count_is)) (omega (arith, b.count_is, b.few)) ceil.0 ceil.1
 
   starts_whole : (starts : List ℕ) (at : ℕ) → at ≡ length (column_bytes values) → starts ≡ found.starts ++ at ∷ [] → starts ≡ marks_of g values
   starts_whole starts at here e =

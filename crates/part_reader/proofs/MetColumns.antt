@@ -1,5 +1,5 @@
 -- Columns that were read for conditions, and what is wanted of them.
-use Rattle.std.proofs.Common.{◌≡◌, ℕ, zero, suc, ◌+◌, ◌-◌, ◌*◌, ◌<◌, min, Bool, true, List, [], ◌∷◌, ◌++◌, Option, Some, refl, sym, ap, ◌∙◌, subst, length, length-append, get_or, slice_get, All, arith}
+use Rattle.std.proofs.Common.{◌≡◌, ℕ, zero, suc, ◌+◌, ◌-◌, ◌*◌, ◌<◌, min, Bool, true, List, [], ◌∷◌, ◌++◌, Option, Some, None, refl, sym, ap, ◌∙◌, subst, length, length-append, get_or, slice_get, All, arith}
 use Rattle.std.specs.List.{list_all, range_with_len}
 use Rattle.std.proofs.lemmas.List.{length-map, nil_from_length}
 use Rattle.std.proofs.lemmas.List.Elements.{All-get_or}
@@ -105,7 +105,7 @@ lone_long c granule xs many =
     let one : size * 1 ≡ size = omega arith in
     ap length (chosen_lone size granule xs) ∙ run_length (size * granule) size kept xs many ∙ ap (λ n. min n (kept - size * granule)) (sym one)
 
-pub gains_whole : (c : PartColumn) (granule : ℕ) (mask : List Bool) (old new : Cells) → IsRunAdded c (lone granule) old new → list_all (λ b. b) mask ≡ true → length mask ≡ rows_in c.loaded (lone granule) → GainsPicked c (lone_chosen granule) mask old new
+pub gains_whole : (c : PartColumn) (granule : ℕ) (mask : List Bool) (old new : Cells) → IsRunAdded c (lone granule) None old new → list_all (λ b. b) mask ≡ true → length mask ≡ rows_in c.loaded (lone granule) → GainsPicked c (lone_chosen granule) mask old new
 gains_whole c granule mask old new read all even =
     let gains = gains_lone c granule old new read in
     let size = c.loaded.schema.granularity in

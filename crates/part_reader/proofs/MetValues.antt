@@ -1,7 +1,7 @@
 -- Rows of a granule at which a mask is true, added to columns.
-use Rattle.std.proofs.Common.{◌≡◌, ℕ, suc, ◌+◌, ◌*◌, ◌<◌, ◌≤◌, Bool, true, false, List, [], ◌∷◌, ◌++◌, Option, Some, refl, sym, ap, ap₂, ◌∙◌, subst, length, get_or, map, drop, slice_get, filter_map, All, arith, append-nil}
+use Rattle.std.proofs.Common.{◌≡◌, ℕ, suc, ◌+◌, ◌<◌, ◌≤◌, Bool, true, false, List, [], ◌∷◌, ◌++◌, Option, Some, refl, sym, ap, ap₂, ◌∙◌, subst, length, get_or, map, slice_get, filter_map, All, arith, append-nil}
 use Rattle.std.specs.List.{cons_option}
-use Rattle.std.proofs.lemmas.List.Elements.{All-cons, All-drop, All-filter, All-head, All-nil, All-tail, All-take}
+use Rattle.std.proofs.lemmas.List.Elements.{All-cons, All-head, All-nil, All-tail}
 use Rattle.std.proofs.lemmas.Option.{slice_get-get_or, slice_get_within}
 use Rattle.std.proofs.lemmas.Simd.{map-map}
 use Rattle.mt_base.specs.declared.name.FileId.TheVariants as file
@@ -11,12 +11,11 @@ use Rattle.mt_values.specs.declared.value.ColType.{ColType}
 use Rattle.mt_values.specs.declared.value.Value.{Value}
 use Rattle.mt_values.specs.declared.value.Value.TheVariants as value
 use Rattle.mt_values.specs.ColumnBytes.{column_bytes}
-use Rattle.mt_values.specs.Grid.{Cells, column_of, grid_of, rows_of}
+use Rattle.mt_values.specs.Grid.{Cells, column_of}
 use Rattle.mt_values.specs.Lists.{where_true}
 use Rattle.mt_values.specs.Printing.{selected}
 use Rattle.mt_values.specs.Schemas.{column_types}
 use Rattle.mt_values.specs.Values.{Row, types_of}
-use Rattle.mt_values.proofs.Grids.{length-rows_of}
 use Rattle.part_damage.specs.column_file.Spellings.{with_values}
 use Rattle.part_reader.specs.declared.met_rows.Met.{Met}
 use Rattle.part_reader.specs.declared.met_rows.Query.{Query}
@@ -26,10 +25,10 @@ use Rattle.part_reader.specs.Granules.{PartColumn, chosen_of, column_in}
 use Rattle.part_reader.specs.Parts.{HoldsAt, with_columns}
 use Rattle.part_reader.specs.Picks.{GainsPicked}
 use Rattle.part_reader.specs.Readings.{IsFirstLeft, from_granule, granule_items, lone_chosen}
-use Rattle.part_reader.specs.Sieves.{AddsMet, GivesMet, IsMet, Sifting, asking_of, count_true, met_items, passes, sifting_of}
+use Rattle.part_reader.specs.Sieves.{AddsMet, IsMet, Sifting, asking_of, count_true, met_items, passes, sifting_of}
 use Rattle.part_reader.proofs.ChosenColumns.{held_column}
 use Rattle.part_reader.proofs.ChosenItems.{column_chosen}
-use Rattle.part_reader.proofs.CutRows.{HaveAll, chosen_every, projected, typed_have_all, with_empty}
+use Rattle.part_reader.proofs.CutRows.{HaveAll, chosen_every, typed_have_all}
 use Rattle.part_reader.proofs.Holding.{AreTyped, columns_held, columns_within, each_typed}
 use Rattle.part_reader.proofs.LeftGranules.{chosen_lone, columns_rows, from_again, granule_many}
 use Rattle.part_reader.proofs.SiftedRows.{true_few, where_count, where_filter, where_gone}
@@ -138,9 +137,9 @@ typed_many types (p ∷ places) (c ∷ cs) typed = ap suc (typed_many types plac
 
 -- ---- what a call adds
 
-module _ {F : Type 0} (files_of : F → Option Files) (schema : Schema) (part : Part F) (query : Query) where
+module _ {F : Type 0} (files_of : F → Option Files) (schema : Schema) (part : Part F) (query : Query) (most : ℕ) where
   abbrev pub sifting : List Bool → Sifting F
-  sifting left = sifting_of schema part query left
+  sifting left = sifting_of schema part query most left
 
   -- the rows of a granule that its mask keeps are those that meet what is asked there
   met_filtered : (left : List Bool) (granule : ℕ) (met : Met) (rows : List Row) → IsMet files_of schema part query granule met → HoldsAt files_of schema part (map file.Column met.places.now) rows
@@ -179,27 +178,3 @@ module _ {F : Type 0} (files_of : F → Option Files) (schema : Schema) (part : 
             let own = subst (λ ps. HoldsAt files_of schema part (map file.Column ps) rows) (sym is.places) asked in
             met_added files_of schema part places rows wanted granule mask olds news typed gained ∙ ap (λ rs. with_columns rs places olds) (met_filtered left granule met rows is own);
       }
-
--- ---- what a call gives
-
--- columns that had no values, once rows were added to them, as a block
-pub gives_added : {F : Type 0} (files_of : F → Option Files) (old new : Sifting F) (olds news : List Cells) (count : ℕ) → AddsMet files_of old new olds news count → map (λ (c : Cells). c.values) olds ≡ map (λ place. []) old.reading.places
-    → map (λ (c : Cells). c.col_type) olds ≡ filter_map (slice_get (column_types old.reading.schema)) old.reading.places → GivesMet files_of old new (grid_of news count)
-gives_added files_of old new olds news count adds empty typed = record {
-  granule = adds.granule;
-  first = adds.first;
-  rest = adds.rest;
-  within = omega (arith, length-rows_of news count, adds.within);
-  types = adds.types ∙ typed;
-  rows = λ rows asked wanted.
-      let schema = old.reading.schema in
-      let places = old.reading.places in
-      let part = old.reading.part in
-      let size = part.loaded.schema.granularity in
-      let test = λ (row : Row). passes old.asking adds.granule (selected old.asked row) in
-      let Own = λ (row : Row). types_of row ≡ column_types schema in
-      let every = All-filter test Own (granule_items size adds.granule rows) (All-take Own size (drop (size * adds.granule) rows) (All-drop Own (size * adds.granule) rows wanted.typed)) in
-      let made = ap (map (λ (c : Cells). c.values)) (adds.values rows asked wanted) ∙ with_empty (met_items old adds.granule rows) places olds empty in
-      ap (rows_of news) (adds.counted rows asked wanted)
-      ∙ projected news places (met_items old adds.granule rows) made (typed_have_all (column_types schema) places (met_items old adds.granule rows) (columns_within files_of schema part places rows wanted) every);
-}

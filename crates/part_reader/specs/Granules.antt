@@ -1,5 +1,5 @@
 -- Which granules of a part are read, and what its columns say of them (docs/formats.md, "Parts").
-use Rattle.std.specs.Prelude.{◌≡◌, ℕ, ◌+◌, ◌-◌, ◌*◌, ◌≤◌, ◌⊎◌, min, Bool, true, List, ◌++◌, length, take, replicate, slice_get, slice_range, Option, Some, ⊤}
+use Rattle.std.specs.Prelude.{◌≡◌, ℕ, ◌+◌, ◌-◌, ◌*◌, ◌≤◌, ◌⊎◌, min, Bool, true, List, ◌++◌, length, take, replicate, slice_get, slice_range, Option, Some, None, ⊤}
 use Rattle.std.specs.List.{range_with_len}
 use Rattle.std.specs.Option.{ForSome, option_and_then}
 use Rattle.mt_base.specs.declared.name.FileId.TheVariants as file
@@ -9,6 +9,7 @@ use Rattle.mt_values.specs.Grid.{Cells}
 pub use Rattle.mt_values.specs.Granules.{chosen_of}
 use Rattle.mt_outside.specs.Files.{Files, bytes_of}
 use Rattle.part_damage.specs.column_file.Granules.{marks_of}
+use Rattle.part_damage.specs.column_file.Picks.{GainsWhere}
 use Rattle.part_damage.specs.column_file.Spellings.{GainsAll, IsSpelling, with_values}
 use Rattle.part_damage.specs.part_writer.declared.loaded.Loaded.{Loaded}
 use Rattle.part_reader.specs.declared.files.Span.{Span}
@@ -57,17 +58,22 @@ rows_in loaded run = min (loaded.schema.granularity * run.count) (loaded.manifes
 abbrev pub IsSpanRead : PartColumn → Span → List ℕ → Type 0
 IsSpanRead c span bytes = ForSome c.told (λ files. bytes ≡ slice_range (bytes_of (file.Column c.number) files) span.start span.end)
 
--- a column got the values that the bytes of a run spell, one for each row
-pub record IsRunRead (c : PartColumn) (run : Run) (old new : Cells) : Type 0 where
+-- a column got the values that bytes spell, one for each of so many rows; with a mask, those at which it is true
+abbrev pub Gains : Option (List Bool) → ℕ → List ℕ → Cells → Cells → Type 0
+Gains None count bytes old new = GainsAll count bytes old new
+Gains (Some mask) count bytes old new = GainsWhere mask bytes old new
+
+-- a column got the values that the bytes of a run spell, one for each row; with a mask, those at which it is true
+pub record IsRunRead (c : PartColumn) (run : Run) (mask : Option (List Bool)) (old new : Cells) : Type 0 where
   pub span : Span
   pub span_is : IsSpanOf c.loaded.places c.number run span
   pub bytes : List ℕ
   pub read : IsSpanRead c span bytes
-  pub gained : GainsAll (rows_in c.loaded run) bytes old new
+  pub gained : Gains mask (rows_in c.loaded run) bytes old new
 
--- a column got what a run has, and of one without granules nothing
-abbrev pub IsRunAdded : PartColumn → Run → Cells → Cells → Type 0
-IsRunAdded c run old new = ((run.count ≡ 0) × (new ≡ old)) ⊎ IsRunRead c run old new
+-- a column got what is wanted of a run, and of one without granules nothing
+abbrev pub IsRunAdded : PartColumn → Run → Option (List Bool) → Cells → Cells → Type 0
+IsRunAdded c run mask old new = ((run.count ≡ 0) × (new ≡ old)) ⊎ IsRunRead c run mask old new
 
 -- ---- damage
 

@@ -50,12 +50,14 @@ pub record IsFirstLeft (loaded : Loaded) (left : List Bool) (granule : ℕ) : Ty
   pub some : 0 < rows_in loaded (lone granule)
   pub none_before : chosen_count loaded.schema.granularity (take granule left) loaded.manifest.rows ≡ 0
 
--- a part of a table that is read: the columns at which places are wanted of it, and which of its granules are still to come
+-- a part of a table that is read: the columns at which places are wanted of it, which of its granules are still to come, and how many bytes
+-- of each column are read ahead and kept at most
 pub record Reading (F : Type 0) : Type 0 where
   pub schema : Schema
   pub part : Part F
   pub places : List ℕ
   pub left : List Bool
+  pub most : ℕ
 
 -- the same once a granule was given, and those before it were given or passed over
 abbrev pub past : {F : Type 0} → ℕ → Reading F → Reading F

@@ -1,11 +1,11 @@
 -- Which rows of a granule of a part meet what is asked of them (docs/architecture.md, "The way of a SELECT").
-use Rattle.std.specs.Prelude.{All, ◌≡◌, ◌<◌, ◌≤◌, ℕ, ◌+◌, ◌^◌, Bool, true, false, not, ◌||◌, ◌⊎◌, List, [], ◌∷◌, ◌++◌, length, map, take, drop, get_or, slice_get, Option, Some, None}
-use Rattle.std.specs.List.{filter, filter_map, list_all}
+use Rattle.std.specs.Prelude.{All, ◌≡◌, ◌<◌, ◌≤◌, ℕ, ◌+◌, ◌^◌, Bool, true, false, not, ◌||◌, ◌⊎◌, List, [], ◌∷◌, ◌++◌, length, map, take, drop, get_or, Option, Some, None}
+use Rattle.std.specs.List.{filter, list_all}
 use Rattle.mt_base.specs.declared.name.FileId.TheVariants as file
 use Rattle.mt_values.specs.declared.expr.Test.{Test}
 use Rattle.mt_values.specs.declared.schema.Schema.{Schema}
 use Rattle.mt_values.specs.Conditions.{Condition}
-use Rattle.mt_values.specs.Grid.{Cells, Grid, rows_of}
+use Rattle.mt_values.specs.Grid.{Cells, rows_of}
 use Rattle.mt_values.specs.Lists.{where_true}
 use Rattle.mt_values.specs.Printing.{selected}
 use Rattle.mt_values.specs.Schemas.{column_types}
@@ -40,9 +40,9 @@ pub record Sifting (F : Type 0) : Type 0 where
   pub asking : Asking
 
 -- what is asked of the granules of a part that are still to come
-abbrev pub sifting_of : {F : Type 0} → Schema → Part F → Query → List Bool → Sifting F
-sifting_of schema part query left = record {
-  reading = record { schema = schema; part = part; places = query.wanted.now; left = left };
+abbrev pub sifting_of : {F : Type 0} → Schema → Part F → Query → ℕ → List Bool → Sifting F
+sifting_of schema part query most left = record {
+  reading = record { schema = schema; part = part; places = query.wanted.now; left = left; most = most };
   asked = query.asked.now;
   asking = asking_of query.sieves.now;
 }
@@ -73,23 +73,8 @@ pub record IsMet {F : Type 0} (files_of : F → Option Files) (schema : Schema) 
 
 -- ---- granule by granule
 
--- Of the first granule that is left which has any row, the rows that meet what is asked there are given, of each the values of the wanted
--- columns, and the granules after it are left.
-pub record GivesMet {F : Type 0} (files_of : F → Option Files) (old new : Sifting F) (given : Grid) : Type 0 where
-  pub granule : ℕ
-  pub first : IsFirstLeft old.reading.part.loaded old.reading.left granule
-  pub rest : new ≡ record old { reading = past granule old.reading }
-  pub within : length given.rows ≤ rows_in old.reading.part.loaded (lone granule)
-  pub types : given.types ≡ filter_map (slice_get (column_types old.reading.schema)) old.reading.places
-  pub rows : (rows : List Row) → HoldsAt files_of old.reading.schema old.reading.part (map file.Column old.asked) rows → HoldsAt files_of old.reading.schema old.reading.part (map file.Column old.reading.places) rows
-      → given.rows ≡ map (selected old.reading.places) (met_items old granule rows)
-
--- the rows of the next granule are given that meet what is asked there; or there is no granule that has any row, and nothing changes
-abbrev pub GivesNextMet : {F : Type 0} → (F → Option Files) → Sifting F → Sifting F → Option Grid → Type 0
-GivesNextMet files_of old new None = (new ≡ old) × (count_left old.reading ≡ 0)
-GivesNextMet files_of old new (Some given) = GivesMet files_of old new given
-
--- The same rows are added to columns, and counted: each column gets that many values, of its type.
+-- Of the first granule that is left which has any row, the rows that meet what is asked there are added to columns, of each the values of the
+-- wanted columns, and counted: each column gets that many values, of its type. The granules after it are left.
 pub record AddsMet {F : Type 0} (files_of : F → Option Files) (old new : Sifting F) (olds news : List Cells) (count : ℕ) : Type 0 where
   pub granule : ℕ
   pub first : IsFirstLeft old.reading.part.loaded old.reading.left granule
@@ -103,6 +88,7 @@ pub record AddsMet {F : Type 0} (files_of : F → Option Files) (old new : Sifti
   pub values : (rows : List Row) → HoldsAt files_of old.reading.schema old.reading.part (map file.Column old.asked) rows → HoldsAt files_of old.reading.schema old.reading.part (map file.Column old.reading.places) rows
       → news ≡ with_columns (met_items old granule rows) old.reading.places olds
 
+-- the rows of the next granule are added that meet what is asked there; or there is no granule that has any row, and nothing changes
 abbrev pub AddsNextMet : {F : Type 0} → (F → Option Files) → Sifting F → Sifting F → List Cells → List Cells → Option ℕ → Type 0
 AddsNextMet files_of old new olds news None = (new ≡ old) × (news ≡ olds) × (count_left old.reading ≡ 0)
 AddsNextMet files_of old new olds news (Some count) = AddsMet files_of old new olds news count

@@ -1,22 +1,19 @@
 // Granules of a column whose bytes are read ahead: with the bytes of a granule those of the chosen granules right after it, so that one
 // read serves many small granules.
-ghost use Rattle.std.specs.Prelude.{◌≡◌, ◌+◌, ◌-◌, ◌<◌, ◌≤◌, ◌^◌, ◌↔◌, ℕ, IfErr, IsErrOf, IsTrue, List, OnOk, Option, length, slice_range};
+ghost use Rattle.std.specs.Prelude.{◌≡◌, ◌+◌, ◌-◌, ◌<◌, ◌≤◌, ◌^◌, ◌↔◌, ℕ, IfErr, IfSome, IsErrOf, IsTrue, OnOk, Option, length, option_copied, slice_range};
 ghost use Rattle.mt_outside.specs.Files.{Files};
 ghost use Rattle.mt_outside.specs.Leaves.{LeavesArm};
 ghost use Rattle.part_reader.specs.Ahead.{IsAhead, IsCovered};
 ghost use Rattle.part_reader.specs.Faults.{IsNoDamage};
 ghost use Rattle.part_reader.specs.Granules.{ExplainsRun, IsRunAdded, column_in, rows_in};
-ghost use Rattle.part_reader.specs.Picks.{IsPickAdded};
 ghost use Rattle.part_reader.specs.Readings.{lone};
 
 use crate::files::{Span, read_span};
 use crate::marked::misread;
-use crate::picked_rows::add_run_where;
 use crate::reading::{Part, PartFault};
-use crate::runs::{Run, add_run, place_of, row_count, span_of, unplaced};
+use crate::runs::{Run, add_run, decode, place_of, row_count, span_of, unplaced};
 use mt_outside::Arm;
 use mt_values::{ColumnData, FileId, Schema};
-use part_damage::column_file::{decode_onto, decode_where};
 use std::alloc::Global;
 
 /// A part of which chosen granules are read, one after another.
@@ -77,9 +74,10 @@ impl Ahead {
     }
 }
 
-/// Adds the values that the rows of a granule have in the part's column with this number to a column. Where the granule's bytes were
-/// read ahead, nothing is read. Else they are read, and with them those of the chosen granules right after it, up to the source's bound.
-/// A granule that has more bytes than that is read by itself, and none of them is kept.
+/// Adds the values that the wanted rows of a granule have in the part's column with this number to a column. A mask says of each row of
+/// the granule whether it is wanted; without one each is. Where the granule's bytes were read ahead, nothing is read. Else they are
+/// read, and with them those of the chosen granules right after it, up to the source's bound. A granule that has more bytes than that
+/// is read by itself, and none of them is kept.
 ///
 /// The errors are those of `add_run`.
 pub fn add_granule<R: Arm>(
@@ -88,14 +86,17 @@ pub fn add_granule<R: Arm>(
     source: &Source<R::Dir>,
     number: u32,
     granule: usize,
+    mask: Option<&[bool]>,
     ahead: &mut Ahead,
     column: &mut ColumnData,
 ) -> Result<(), PartFault>
     requires granule { granule + 1 < 2 ^ 64 }
+    requires even { IfSome mask
+        (λ m. length m.now ≡ rows_in source.now.part.now.loaded (lone granule)) }
     requires ahead { IsAhead (R.Dir.files source.now.part.now.dir) source.now.most number
         ahead.old }
     ensures read { OnOk result (IsRunAdded (column_in R.Dir.files source.now.part.now number)
-        (lone granule) column.old column.new) }
+        (lone granule) (option_copied mask.entry) column.old column.new) }
     ensures ahead { IsAhead (R.Dir.files source.now.part.now.dir) source.now.most number ahead.new }
     ensures damaged { IfErr result (ExplainsRun (column_in R.Dir.files source.now.part.now number)
         (lone granule) column.old.col_type) }
@@ -110,7 +111,7 @@ pub fn add_granule<R: Arm>(
         return Err(unplaced(loaded));
     };
     if span.end < span.start || span.end - span.start > source.most {
-        return add_run(alloc, arm, source.part, number, run, column);
+        return add_run(alloc, arm, source.part, number, run, mask, column);
     }
     let wanted = Granule {
         column: number,
@@ -119,56 +120,7 @@ pub fn add_granule<R: Arm>(
     };
     fetch(alloc, arm, source, wanted, ahead)?;
     let bytes = ahead.between(span);
-    match decode_onto(column, bytes, row_count(loaded, run)) {
-        Ok(()) => Ok(()),
-        Err(error) => Err(misread(loaded, FileId::Column(number), span.start, bytes, error)),
-    }
-}
-
-/// Adds the values that the wanted rows of a granule have in the part's column with this number to a column: the mask says of each row of
-/// the granule whether it is wanted. The bytes are read as `add_granule` reads them.
-///
-/// The errors are those of `add_run`.
-pub fn add_granule_where<R: Arm>(
-    alloc: Global,
-    arm: &mut R,
-    source: &Source<R::Dir>,
-    number: u32,
-    granule: usize,
-    mask: &[bool],
-    ahead: &mut Ahead,
-    column: &mut ColumnData,
-) -> Result<(), PartFault>
-    requires granule { granule + 1 < 2 ^ 64 }
-    requires even { length mask.now ≡ rows_in source.now.part.now.loaded (lone granule) }
-    requires ahead { IsAhead (R.Dir.files source.now.part.now.dir) source.now.most number
-        ahead.old }
-    ensures read { OnOk result (IsPickAdded (column_in R.Dir.files source.now.part.now number)
-        (lone granule) mask.now column.old column.new) }
-    ensures ahead { IsAhead (R.Dir.files source.now.part.now.dir) source.now.most number ahead.new }
-    ensures damaged { IfErr result (ExplainsRun (column_in R.Dir.files source.now.part.now number)
-        (lone granule) column.old.col_type) }
-    ensures arm { LeavesArm R.Arm arm.old arm.new (IsErrOf result PartFault.Fault) }
-{
-    let loaded = &source.part.loaded;
-    let run = Run {
-        first: granule,
-        count: 1,
-    };
-    let Some(span) = span_of(&loaded.places, number, run) else {
-        return Err(unplaced(loaded));
-    };
-    if span.end < span.start || span.end - span.start > source.most {
-        return add_run_where(alloc, arm, source.part, number, run, mask, column);
-    }
-    let wanted = Granule {
-        column: number,
-        number: granule,
-        span,
-    };
-    fetch(alloc, arm, source, wanted, ahead)?;
-    let bytes = ahead.between(span);
-    match decode_where(column, bytes, mask) {
+    match decode(column, bytes, row_count(loaded, run), mask) {
         Ok(()) => Ok(()),
         Err(error) => Err(misread(loaded, FileId::Column(number), span.start, bytes, error)),
     }

@@ -10,8 +10,7 @@ ghost use Rattle.part_damage.specs.part_writer.PartFiles.{HasIndexes};
 ghost use Rattle.part_reader.specs.Compared.{IsCompared};
 ghost use Rattle.part_reader.specs.Damage.{ExplainsCheck, GoesWrongAlone, Tells};
 ghost use Rattle.part_reader.specs.DamagedFile.{damaged_file};
-ghost use Rattle.part_reader.specs.Faults.{ExplainsBytes, ExplainsFile, IsNoDamage};
-ghost use Rattle.part_reader.specs.Parts.{PartHolds};
+ghost use Rattle.part_reader.specs.Faults.{ExplainsBytes, ExplainsFile};
 ghost use Rattle.part_damage.specs.Sound.{AreRowsRead, IsLoadedOf, IsReadAs};
 ghost use Rattle.part_damage.specs.Marks.{mark_for};
 
@@ -51,13 +50,6 @@ pub fn check_part<R: Arm>(alloc: Global, part: &Part<R::Dir>, arm: &mut R) -> Re
         → IsLoadedOf schema files part.now.loaded
         → MatchResult result (λ _. damaged_file schema files ≡ None)
         (Tells (λ found. damaged_file schema files ≡ found)) }
-    ensures held { let schema = part.now.loaded.schema in
-        (files : Files) → R.Dir.files part.now.dir ≡ Some files
-        → IsLoadedOf schema files part.now.loaded
-        → OnOk result ((rows : List Row) × PartHolds R.Dir.files schema part.now rows) }
-    ensures sound { let schema = part.now.loaded.schema in
-        (rows : List Row) → PartHolds R.Dir.files schema part.now rows
-        → IfErr result IsNoDamage }
 
     // What the arm is then, and its count of faults.
     ensures arm { LeavesArm R.Arm arm.old arm.new (IsErrOf result PartFault.Fault) }

@@ -102,10 +102,10 @@ pub fn read_span<R: Arm>(
 {
     let size = span.end.saturating_sub(span.start) as usize;
     let mut bytes = Vec::with_capacity(alloc, size)?;
-    let mut heap = buffer(alloc, PIECE)?;
+    let mut heap = buffer(alloc, size.min(PIECE))?;
     let piece = heap.as_mut_slice();
     for _read in 0..u64::MAX {
-        let most = (size - bytes.len()).min(PIECE);
+        let most = (size - bytes.len()).min(piece.len());
         if most == 0 {
             return Ok(bytes);
         }

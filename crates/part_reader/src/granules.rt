@@ -10,7 +10,7 @@ ghost use Rattle.mt_values.specs.Grid.{Cells};
 ghost use Rattle.mt_values.specs.Printing.{selected};
 ghost use Rattle.mt_values.specs.Schemas.{column_types};
 ghost use Rattle.mt_values.specs.Values.{Row};
-ghost use Rattle.part_reader.specs.Faults.{ExplainsAt, ExplainsEach, IsNoDamage};
+ghost use Rattle.part_reader.specs.Faults.{ExplainsAt, ExplainsEach};
 ghost use Rattle.part_reader.specs.Granules.{ExplainsChosen, ExplainsRun, GainsChosen, chosen_count, chosen_of, column_in, rows_in};
 ghost use Rattle.part_reader.specs.Parts.{HoldsAt, with_columns};
 ghost use Rattle.part_reader.specs.Readings.{granule_items, lone};
@@ -59,11 +59,6 @@ pub fn add_granules<R: Arm>(
         (λ (c : Cells). c.col_type) columns.old) }
 
     // What a fault says.
-    ensures sound { (schema : Schema) (rows : List Row)
-        → HoldsAt R.Dir.files schema part.now (map file.Column places.now) rows
-        → map (λ (c : Cells). c.col_type) columns.old ≡ filter_map (slice_get (column_types schema))
-        places.now → length chosen.now ≡ granules schema.granularity (length rows)
-        → IfErr result IsNoDamage }
     ensures damaged { IfErr result (ExplainsEach (λ number t. ExplainsChosen
         (column_in R.Dir.files part.now number) chosen.now t) places.now columns.old) }
 
@@ -98,10 +93,6 @@ pub fn read_granules<R: Arm>(
         part.now.loaded.schema.granularity chosen.now part.now.loaded.manifest.rows) }
 
     // What a fault says.
-    ensures sound { (schema : Schema) (rows : List Row)
-        → HoldsAt R.Dir.files schema part.now (map file.Column places.now) rows
-        → length chosen.now ≡ granules schema.granularity (length rows)
-        → IfErr result IsNoDamage }
     ensures damaged { IfErr result (ExplainsAt (λ number t. ExplainsChosen
         (column_in R.Dir.files part.now number) chosen.now t)
         (column_types part.now.loaded.schema) places.now) }
@@ -145,9 +136,6 @@ pub fn read_granule<R: Arm>(
     ensures count { IfOk result (λ v. length v.items ≡ rows_in part.now.loaded (lone number)) }
 
     // What a fault says.
-    ensures sound { (schema : Schema) (rows : List Row)
-        → HoldsAt R.Dir.files schema part.now (map file.Column places.now) rows
-        → IfErr result IsNoDamage }
     ensures damaged { IfErr result (ExplainsAt (λ column t. ExplainsRun
         (column_in R.Dir.files part.now column) (lone number) t)
         (column_types part.now.loaded.schema) places.now) }
@@ -217,9 +205,9 @@ fn add_chosen<R: Arm>(
             continue;
         }
         let count = granule - first;
-        add_run(alloc, arm, part, number, Run { first, count }, column)?;
+        add_run(alloc, arm, part, number, Run { first, count }, None, column)?;
         first = granule + 1;
     }
     let count = chosen.len() - first;
-    add_run(alloc, arm, part, number, Run { first, count }, column)
+    add_run(alloc, arm, part, number, Run { first, count }, None, column)
 }

@@ -1,31 +1,26 @@
-// The rows of a part that meet conditions, given granule by granule. Of a granule the columns of the conditions are read first, and the
-// others only where some row meets them.
-ghost use Rattle.std.specs.Prelude.{◌≡◌, ◌+◌, ◌<◌, ◌≤◌, ◌^◌, [], ℕ, All, IfErr, IfOk, IsErrOf, List, MatchOption, OnOk, Some, length, map, slice_get};
+// The rows of a part that meet conditions, added to columns granule by granule. Of a granule the columns of the conditions are read
+// first, and the others only where some row meets them.
+ghost use Rattle.std.specs.Prelude.{◌≡◌, ◌+◌, ◌<◌, ◌≤◌, ◌^◌, All, IfErr, IfOk, IsErrOf, MatchOption, OnOk, Some, length, map, slice_get};
 ghost use Rattle.std.specs.List.{Contains as HasItem, filter_map};
-ghost use Rattle.part_damage.specs.column_file.Marks.{granules};
 ghost use Rattle.mt_outside.specs.Leaves.{LeavesArm};
-ghost use Rattle.mt_base.specs.declared.name.FileId.TheVariants as file;
 ghost use Rattle.mt_values.specs.Grid.{Cells};
 ghost use Rattle.mt_values.specs.Schemas.{column_types};
-ghost use Rattle.mt_values.specs.Values.{Row};
 ghost use Rattle.part_reader.specs.Ahead.{AreAhead, IsAhead};
 ghost use Rattle.part_reader.specs.Columns.{AreEach};
-ghost use Rattle.part_reader.specs.Faults.{ExplainsAt, ExplainsEach, IsNoDamage};
+ghost use Rattle.part_reader.specs.Faults.{ExplainsAt, ExplainsEach};
 ghost use Rattle.part_reader.specs.Granules.{ExplainsRun, column_in, rows_in};
-ghost use Rattle.part_reader.specs.Parts.{HoldsAt};
 ghost use Rattle.part_reader.specs.Picks.{GainsPicked};
-ghost use Rattle.part_reader.specs.Readings.{AreGranuleColumns, ExplainsLeft, lone, lone_chosen};
-ghost use Rattle.part_reader.specs.Sieves.{AddsNextMet, ExplainsSifting, GivesNextMet, HasAnswers, IsMet, count_true, sifting_of};
+ghost use Rattle.part_reader.specs.Readings.{lone, lone_chosen};
+ghost use Rattle.part_reader.specs.Sieves.{AddsNextMet, ExplainsSifting, HasAnswers, IsMet, count_true, sifting_of};
 
-use crate::ahead::{Ahead, Source, add_granule, add_granule_where};
-use crate::cut_rows::empty_columns;
+use crate::ahead::{Ahead, Source, add_granule};
 use crate::part_rows::{first_left, none_ahead, read_granule_columns};
 use crate::reading::{Part, PartFault};
 use crate::runs::granule_rows;
 use crate::sieves::{Sieve, count_true, is_whole, sift};
 use mt_base::NoMemory;
 use mt_outside::{Arm, Dir};
-use mt_values::{Block, ColumnData, Schema};
+use mt_values::{ColumnData, Schema};
 use std::alloc::Global;
 use std::marker::Model;
 
@@ -41,7 +36,8 @@ pub struct Query<'a> {
 }
 
 /// A part of which the rows are read that meet conditions, granule by granule. Contracts see the table's columns, the part, the places
-/// of the columns that are wanted, which granules are still to come, and what is asked.
+/// of the columns that are wanted, which granules are still to come, how many bytes of each column are read ahead and kept at most, and
+/// what is asked.
 #[derive(Drop)]
 pub struct MetRows<'a, F: Dir> {
     source: Source<'a, F>,
@@ -68,13 +64,14 @@ impl<'a, F: Dir> Model for MetRows<'a, F> {
     ghost use Rattle.part_reader.specs.Ahead.{AreAhead};
 
     ghost view = { λ r. sifting_of r.source.schema.now r.source.part.now r.query
-        (from_granule r.at r.source.chosen.now) };
+        r.source.most (from_granule r.at r.source.chosen.now) };
 
     ghost invariant = { λ r. (r.at ≤ length r.source.chosen.now)
         × All (λ place. place < length r.source.schema.now.columns) r.query.asked.now
         × All (λ place. place < length r.source.schema.now.columns) r.query.wanted.now
         × AreAhead (F.files r.source.part.now.dir) r.source.most r.query.asked.now r.asked.items
-        × AreAhead (F.files r.source.part.now.dir) r.source.most r.query.wanted.now r.wanted.items };
+        × AreAhead (F.files r.source.part.now.dir) r.source.most r.query.wanted.now
+        r.wanted.items };
 }
 
 impl<'a, F: Dir> MetRows<'a, F> {
@@ -93,7 +90,7 @@ impl<'a, F: Dir> MetRows<'a, F> {
         requires asked { All (λ place. place < length schema.now.columns) query.asked.now }
         requires wanted { All (λ place. place < length schema.now.columns) query.wanted.now }
         ensures { IfOk result
-            (λ r. r ≡ sifting_of schema.now part.now query.entry chosen.now) }
+            (λ r. r ≡ sifting_of schema.now part.now query.entry most chosen.now) }
     {
         let asked = none_ahead(alloc, query.asked.len())?;
         let wanted = none_ahead(alloc, query.wanted.len())?;
@@ -109,37 +106,6 @@ impl<'a, F: Dir> MetRows<'a, F> {
             asked,
             wanted,
         })
-    }
-
-    /// The rows of the next chosen granule that has any which meet what is asked there, as a block of the wanted columns; it may have
-    /// none. None where no granule with rows is left.
-    ///
-    /// The errors are those of `PartRows`. After an error the reader can only be given up.
-    pub fn next<R: Arm<Dir = F>>(
-        &mut self,
-        alloc: Global,
-        arm: &mut R,
-    ) -> Result<Option<Block>, PartFault>
-        // What is given, and what is left.
-        ensures gives { IfOk result (GivesNextMet F.files self.old self.new) }
-
-        // What a fault says.
-        ensures sound { (rows : List Row) → HoldsAt F.files self.old.reading.schema
-            self.old.reading.part (map file.Column self.old.asked) rows
-            → HoldsAt F.files self.old.reading.schema self.old.reading.part
-            (map file.Column self.old.reading.places) rows → IfErr result IsNoDamage }
-        ensures damaged { IfErr result (ExplainsSifting F.files self.old) }
-
-        // What the arm is then, and its count of faults.
-        ensures arm { LeavesArm R.Arm arm.old arm.new (IsErrOf result PartFault.Fault) }
-    {
-        let Ok(mut columns) = self.wanted_columns(alloc) else {
-            return Err(PartFault::NoMemory);
-        };
-        let Some(count) = self.add_next(alloc, arm, &mut columns)? else {
-            return Ok(None);
-        };
-        Ok(Some(Block::of_columns(columns, count)))
     }
 
     /// Adds the rows of the next chosen granule that has any, those that meet what is asked there, to columns: of each the values of the
@@ -161,10 +127,6 @@ impl<'a, F: Dir> MetRows<'a, F> {
             (AddsNextMet F.files self.old self.new columns.old columns.new) }
 
         // What a fault says.
-        ensures sound { (rows : List Row) → HoldsAt F.files self.old.reading.schema
-            self.old.reading.part (map file.Column self.old.asked) rows
-            → HoldsAt F.files self.old.reading.schema self.old.reading.part
-            (map file.Column self.old.reading.places) rows → IfErr result IsNoDamage }
         ensures damaged { IfErr result (ExplainsSifting F.files self.old) }
 
         // What the arm is then, and its count of faults.
@@ -194,16 +156,6 @@ impl<'a, F: Dir> MetRows<'a, F> {
         )?;
         self.at = granule + 1;
         Ok(Some(count))
-    }
-
-    /// The wanted columns, without values.
-    fn wanted_columns(&self, alloc: Global) -> Result<Vec<ColumnData>, NoMemory>
-        ensures types { IfOk result (λ v. map (λ (c : Cells). c.col_type) v.items ≡ filter_map
-            (slice_get (column_types self.now.reading.schema)) self.now.reading.places) }
-        ensures empty { IfOk result (λ v. map (λ (c : Cells). c.values) v.items
-            ≡ map (λ place. []) self.now.reading.places) }
-    {
-        empty_columns(alloc, self.source.schema, self.query.wanted)
     }
 }
 
@@ -242,12 +194,8 @@ fn ask<'q, R: Arm>(
         query.now.asked.now aheads.new }
 
     // What a fault says.
-    ensures sound { (rows : List Row) → HoldsAt R.Dir.files source.now.schema.now
-        source.now.part.now (map file.Column query.now.asked.now) rows
-        → granule < granules source.now.part.now.loaded.schema.granularity
-        source.now.part.now.loaded.manifest.rows → IfErr result IsNoDamage }
-    ensures damaged { IfErr result (ExplainsAt
-        (λ number t. ExplainsRun (column_in R.Dir.files source.now.part.now number) (lone granule) t)
+    ensures damaged { IfErr result (ExplainsAt (λ number t. ExplainsRun
+        (column_in R.Dir.files source.now.part.now number) (lone granule) t)
         (column_types source.now.schema.now) query.now.asked.now) }
 
     // What the arm is then, and its count of faults.
@@ -298,12 +246,8 @@ fn add_found<R: Arm>(
         aheads.new }
 
     // What a fault says.
-    ensures sound { (rows : List Row) → HoldsAt R.Dir.files source.now.schema.now
-        source.now.part.now (map file.Column wanted.now) rows
-        → granule < granules source.now.part.now.loaded.schema.granularity
-        source.now.part.now.loaded.manifest.rows → IfErr result IsNoDamage }
-    ensures damaged { IfErr result (ExplainsAt
-        (λ number t. ExplainsRun (column_in R.Dir.files source.now.part.now number) (lone granule) t)
+    ensures damaged { IfErr result (ExplainsAt (λ number t. ExplainsRun
+        (column_in R.Dir.files source.now.part.now number) (lone granule) t)
         (column_types source.now.schema.now) wanted.now) }
 
     // What the arm is then, and its count of faults.
@@ -346,8 +290,8 @@ fn add_met<R: Arm>(
         met.now.mask.items) wanted.now columns.old columns.new) }
     ensures ahead { AreAhead (R.Dir.files source.now.part.now.dir) source.now.most wanted.now
         aheads.new }
-    ensures damaged { IfErr result (ExplainsEach
-        (λ number t. ExplainsRun (column_in R.Dir.files source.now.part.now number) (lone granule) t)
+    ensures damaged { IfErr result (ExplainsEach (λ number t. ExplainsRun
+        (column_in R.Dir.files source.now.part.now number) (lone granule) t)
         wanted.now columns.old) }
     ensures arm { LeavesArm R.Arm arm.old arm.new (IsErrOf result PartFault.Fault) }
 {
@@ -427,9 +371,18 @@ fn read_column<R: Arm>(
     ensures arm { LeavesArm R.Arm arm.old arm.new (IsErrOf result PartFault.Fault) }
 {
     if is_whole(mask) {
-        return add_granule(alloc, arm, source, place, granule, ahead, column);
+        return add_granule(alloc, arm, source, place, granule, None, ahead, column);
     }
-    add_granule_where(alloc, arm, source, place, granule, mask, ahead, column)
+    add_granule(
+        alloc,
+        arm,
+        source,
+        place,
+        granule,
+        Some(mask),
+        ahead,
+        column,
+    )
 }
 
 /// The position of a column among those at places; none where it is not among them.

@@ -1,11 +1,11 @@
 // A part opened: the manifest that lies in its folder, where its granules begin, and what its skip indexes keep.
-ghost use Rattle.std.specs.Prelude.{◌≡◌, ◌≢◌, ◌<◌, ℕ, List, IfErr, IfOk, IsErrOf, MatchResult, OnOk, Some, length};
+ghost use Rattle.std.specs.Prelude.{◌≡◌, ◌<◌, ℕ, List, IfErr, IfOk, IsErrOf, MatchResult, Some, length};
 ghost use Rattle.mt_outside.specs.Files.{Files, bytes_of};
 ghost use Rattle.mt_outside.specs.Leaves.{LeavesArm};
 ghost use Rattle.mt_values.specs.declared.manifest.Manifest.{Manifest};
 ghost use Rattle.mt_base.specs.declared.name.FileId.TheVariants as file;
 ghost use Rattle.mt_values.specs.Values.{Row};
-ghost use Rattle.part_damage.specs.part_writer.PartFiles.{loaded_of, mark_of};
+ghost use Rattle.part_damage.specs.part_writer.PartFiles.{mark_of};
 ghost use Rattle.part_damage.specs.part_writer.declared.loaded.Loaded.{Loaded};
 ghost use Rattle.part_damage.specs.primary_marks.Keys.{HasMarks};
 ghost use Rattle.part_damage.specs.part_writer.PartFiles.{HasIndexes};
@@ -14,7 +14,6 @@ ghost use Rattle.part_damage.specs.Marks.{mark_for};
 ghost use Rattle.part_reader.specs.Damage.{ExplainsManifest, ExplainsManifestFile, ExplainsOpening, GoesWrongAt, IsSkipFault, Tells};
 ghost use Rattle.part_reader.specs.DamagedFile.{damaged_file};
 ghost use Rattle.part_reader.specs.Faults.{ExplainsBytes, ExplainsFile, IsNoDamage};
-ghost use Rattle.part_reader.specs.Parts.{FolderHolds};
 ghost use Rattle.part_damage.specs.Sound.{AreBlocksUnder, AreIndexes, AreKeysUnder, AreMarksUnder, IsLoadedOf, IsManifestFor, IsOpened, IsReadAs};
 ghost use Rattle.part_reader.specs.declared.reading.TheConstants.{NO_MARK};
 
@@ -59,13 +58,8 @@ pub fn open_part<R: Arm>(
     ensures spelled { (files : Files) (loaded : Loaded) → R.Dir.files dir ≡ Some files
         → IsLoadedOf schema.now files loaded
         → MatchResult result (λ p. p.loaded ≡ loaded) IsNoDamage }
-    ensures written { (files : Files) (rows : List Row) → R.Dir.files dir ≡ Some files
-        → FolderHolds schema.now rows files
-        → MatchResult result (λ p. p.loaded ≡ loaded_of schema.now rows) IsNoDamage }
 
     // What is told of damage.
-    ensures sound { (files : Files) → R.Dir.files dir ≡ Some files
-        → OnOk result (damaged_file schema.now files ≢ Some file.Manifest) }
     ensures first { (files : Files) → R.Dir.files dir ≡ Some files
         → IfErr result (Tells (λ found. damaged_file schema.now files ≡ found)) }
     ensures damaged { IfErr result (ExplainsOpening (R.Dir.files dir) schema.now) }

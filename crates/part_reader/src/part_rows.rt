@@ -1,7 +1,6 @@
 // The rows of a part, given granule by granule as blocks of typed columns.
 ghost use Rattle.std.specs.Prelude.{◌≡◌, ◌+◌, ◌<◌, ◌≤◌, ◌^◌, ℕ, All, IfErr, IfOk, IfSome, IsErrOf, List, MatchOption, OnOk, Option, length, map, slice_get};
 ghost use Rattle.std.specs.List.{filter_map};
-ghost use Rattle.part_damage.specs.column_file.Marks.{granules};
 ghost use Rattle.mt_outside.specs.Files.{Files};
 ghost use Rattle.mt_outside.specs.Leaves.{LeavesArm};
 ghost use Rattle.mt_base.specs.declared.name.FileId.TheVariants as file;
@@ -10,7 +9,7 @@ ghost use Rattle.mt_values.specs.Schemas.{column_types};
 ghost use Rattle.mt_values.specs.Values.{Row};
 ghost use Rattle.part_reader.specs.Ahead.{AreAhead};
 ghost use Rattle.part_reader.specs.Columns.{AreEach};
-ghost use Rattle.part_reader.specs.Faults.{ExplainsAt, ExplainsEach, IsNoDamage};
+ghost use Rattle.part_reader.specs.Faults.{ExplainsAt, ExplainsEach};
 ghost use Rattle.part_reader.specs.Granules.{ExplainsRun, GainsChosen, chosen_count, column_in, rows_in};
 ghost use Rattle.part_reader.specs.Parts.{HoldsAt};
 ghost use Rattle.part_reader.specs.Readings.{AreGranuleColumns, ExplainsLeft, GivesNext, IsFirstLeft, LeavesRows, from_granule, granule_items, lone, lone_chosen, rows_left};
@@ -26,8 +25,8 @@ use part_damage::part_writer::Loaded;
 use std::alloc::Global;
 use std::marker::Model;
 
-/// A part that is read granule by granule. Contracts see the table's columns, the part, the places of the columns that are wanted, and
-/// which granules are still to come.
+/// A part that is read granule by granule. Contracts see the table's columns, the part, the places of the columns that are wanted, which
+/// granules are still to come, and how many bytes of each column are read ahead and kept at most.
 ///
 /// Of each column it keeps bytes that were read ahead, no more than it was told, and no row that was given.
 #[derive(Drop)]
@@ -52,6 +51,7 @@ impl<'a, F: Dir> Model for PartRows<'a, F> {
       part = r.source.part.now;
       places = r.places.now;
       left = from_granule r.at r.source.chosen.now;
+      most = r.source.most;
     } };
 
     ghost invariant = { λ r. (r.at ≤ length r.source.chosen.now)
@@ -79,6 +79,7 @@ impl<'a, F: Dir> PartRows<'a, F> {
           part = part.now;
           places = places.now;
           left = chosen.now;
+          most = most;
         }) }
     {
         let aheads = none_ahead(alloc, places.len())?;
@@ -113,9 +114,6 @@ impl<'a, F: Dir> PartRows<'a, F> {
             → IfOk result (LeavesRows (rows_left self.old rows) (rows_left self.new rows)) }
 
         // What a fault says.
-        ensures sound { (rows : List Row)
-            → HoldsAt F.files self.old.schema self.old.part (map file.Column self.old.places) rows
-            → IfErr result IsNoDamage }
         ensures damaged { IfErr result (ExplainsAt
             (λ number t. ExplainsLeft (column_in F.files self.old.part number) self.old.left t)
             (column_types self.old.schema) self.old.places) }
@@ -202,12 +200,8 @@ pub fn read_block<R: Arm>(
         aheads.new }
 
     // What a fault says.
-    ensures sound { (rows : List Row) → HoldsAt R.Dir.files source.now.schema.now
-        source.now.part.now (map file.Column places.now) rows
-        → granule < granules source.now.part.now.loaded.schema.granularity
-        source.now.part.now.loaded.manifest.rows → IfErr result IsNoDamage }
-    ensures damaged { IfErr result (ExplainsAt
-        (λ number t. ExplainsRun (column_in R.Dir.files source.now.part.now number) (lone granule) t)
+    ensures damaged { IfErr result (ExplainsAt (λ number t. ExplainsRun
+        (column_in R.Dir.files source.now.part.now number) (lone granule) t)
         (column_types source.now.schema.now) places.now) }
 
     // What the arm is then, and its count of faults.
@@ -244,12 +238,8 @@ pub fn read_granule_columns<R: Arm>(
         aheads.new }
 
     // What a fault says.
-    ensures sound { (rows : List Row) → HoldsAt R.Dir.files source.now.schema.now
-        source.now.part.now (map file.Column places.now) rows
-        → granule < granules source.now.part.now.loaded.schema.granularity
-        source.now.part.now.loaded.manifest.rows → IfErr result IsNoDamage }
-    ensures damaged { IfErr result (ExplainsAt
-        (λ number t. ExplainsRun (column_in R.Dir.files source.now.part.now number) (lone granule) t)
+    ensures damaged { IfErr result (ExplainsAt (λ number t. ExplainsRun
+        (column_in R.Dir.files source.now.part.now number) (lone granule) t)
         (column_types source.now.schema.now) places.now) }
 
     // What the arm is then, and its count of faults.
@@ -283,8 +273,8 @@ fn add_columns<R: Arm>(
         columns.old columns.new) }
     ensures ahead { AreAhead (R.Dir.files source.now.part.now.dir) source.now.most places.now
         aheads.new }
-    ensures damaged { IfErr result (ExplainsEach
-        (λ number t. ExplainsRun (column_in R.Dir.files source.now.part.now number) (lone granule) t)
+    ensures damaged { IfErr result (ExplainsEach (λ number t. ExplainsRun
+        (column_in R.Dir.files source.now.part.now number) (lone granule) t)
         places.now columns.old) }
     ensures arm { LeavesArm R.Arm arm.old arm.new (IsErrOf result PartFault.Fault) }
 {
@@ -295,6 +285,7 @@ fn add_columns<R: Arm>(
             source,
             *place,
             granule,
+            None,
             &mut aheads[number],
             &mut columns[number],
         )?;

@@ -8,7 +8,7 @@ ghost use Rattle.mt_values.specs.Grid.{Cells};
 ghost use Rattle.mt_values.specs.Schemas.{column_types};
 ghost use Rattle.mt_values.specs.Values.{Row};
 ghost use Rattle.part_reader.specs.Columns.{AreRead, IsRead};
-ghost use Rattle.part_reader.specs.Faults.{ExplainsColumn, ExplainsEach, IsNoDamage};
+ghost use Rattle.part_reader.specs.Faults.{ExplainsColumn, ExplainsEach};
 ghost use Rattle.part_reader.specs.Parts.{HoldsAt, with_columns};
 
 use crate::files::read_file;
@@ -121,10 +121,6 @@ pub fn read_columns<R: Arm>(
         → HoldsAt R.Dir.files schema part.now (map file.Column places.now) rows
         → map (λ (c : Cells). c.col_type) columns.old ≡ filter_map (slice_get (column_types schema))
         places.now → OnOk result (columns.new ≡ with_columns rows places.now columns.old) }
-    ensures sound { (schema : Schema) (rows : List Row)
-        → HoldsAt R.Dir.files schema part.now (map file.Column places.now) rows
-        → map (λ (c : Cells). c.col_type) columns.old ≡ filter_map (slice_get (column_types schema))
-        places.now → IfErr result IsNoDamage }
     ensures read { OnOk result (AreRead (R.Dir.files part.now.dir) part.now.loaded.manifest
         places.now columns.old columns.new) }
     ensures even { (n : ℕ) → All (λ (c : Cells). length c.values ≡ n) columns.old

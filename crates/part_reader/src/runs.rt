@@ -1,8 +1,9 @@
 // Runs of granules of a column, each read by itself.
-ghost use Rattle.std.specs.Prelude.{◌≡◌, ◌<◌, ◌+◌, ◌^◌, IfErr, IsErrOf, MatchOption, OnOk};
+ghost use Rattle.std.specs.Prelude.{◌≡◌, ◌<◌, ◌+◌, ◌^◌, IfErr, IfSome, IsErrOf, MatchOption, OnOk, length, option_copied};
 ghost use Rattle.mt_outside.specs.Leaves.{LeavesArm};
 ghost use Rattle.mt_base.specs.declared.name.FileId.TheVariants as file;
-ghost use Rattle.part_reader.specs.Granules.{ExplainsRun, IsRunAdded, IsSpanOf, column_in, no_run, place_of, rows_in};
+ghost use Rattle.part_damage.specs.column_file.Faults.{Explains};
+ghost use Rattle.part_reader.specs.Granules.{ExplainsRun, Gains, IsRunAdded, IsSpanOf, column_in, no_run, place_of, rows_in};
 ghost use Rattle.part_reader.specs.Readings.{lone};
 
 use crate::files::{Span, read_span};
@@ -10,7 +11,7 @@ use crate::marked::{misread, wanted_of};
 use crate::reading::{Part, PartFault};
 use mt_outside::Arm;
 use mt_values::{ColumnData, FileId};
-use part_damage::column_file::decode_onto;
+use part_damage::column_file::{FormatFault, decode_onto, decode_where};
 use part_damage::part_writer::Loaded;
 use part_damage::primary_marks::Places;
 use std::alloc::Global;
@@ -22,8 +23,8 @@ pub struct Run {
     pub count: usize,
 }
 
-/// Adds the values that the rows of a run have in the part's column with this number to a column. The bytes of the run alone are read;
-/// an empty run is not looked up, and nothing is read.
+/// Adds the values that the wanted rows of a run have in the part's column with this number to a column. A mask says of each row of the
+/// run whether it is wanted; without one each is. The bytes of the run alone are read; an empty run is not looked up, and nothing is read.
 ///
 /// `Damaged` where the places that are kept have no such run, or the bytes are no spelling of a value for each of its rows;
 /// `Fault` only where the arm's count rose in this call; `NoMemory` where an allocation failed. After an error some of the values
@@ -34,11 +35,13 @@ pub fn add_run<R: Arm>(
     part: &Part<R::Dir>,
     number: u32,
     run: Run,
+    mask: Option<&[bool]>,
     column: &mut ColumnData,
 ) -> Result<(), PartFault>
-    requires { run.first + run.count < 2 ^ 64 }
-    ensures read { OnOk result
-        (IsRunAdded (column_in R.Dir.files part.now number) run column.old column.new) }
+    requires run { run.first + run.count < 2 ^ 64 }
+    requires even { IfSome mask (λ m. length m.now ≡ rows_in part.now.loaded run) }
+    ensures read { OnOk result (IsRunAdded (column_in R.Dir.files part.now number) run
+        (option_copied mask.entry) column.old column.new) }
     ensures damaged { IfErr result
         (ExplainsRun (column_in R.Dir.files part.now number) run column.old.col_type) }
     ensures arm { LeavesArm R.Arm arm.old arm.new (IsErrOf result PartFault.Fault) }
@@ -52,9 +55,29 @@ pub fn add_run<R: Arm>(
     };
     let file = FileId::Column(number);
     let bytes = read_span(alloc, arm, &part.dir, file, span)?;
-    match decode_onto(column, &bytes, row_count(loaded, run)) {
+    match decode(column, &bytes, row_count(loaded, run), mask) {
         Ok(()) => Ok(()),
         Err(error) => Err(misread(loaded, file, span.start, &bytes, error)),
+    }
+}
+
+/// Adds the values of the wanted ones of `count` rows, all of whose values the bytes spell, at a column's end.
+///
+/// The errors are those of `decode_onto`.
+pub fn decode(
+    column: &mut ColumnData,
+    bytes: &[u8],
+    count: usize,
+    mask: Option<&[bool]>,
+) -> Result<(), FormatFault>
+    requires { IfSome mask (λ m. length m.now ≡ count) }
+    ensures read { OnOk result
+        (Gains (option_copied mask.entry) count bytes.now column.old column.new) }
+    ensures fault { IfErr result (Explains column.old.col_type count bytes.now) }
+{
+    match mask {
+        None => decode_onto(column, bytes, count),
+        Some(mask) => decode_where(column, bytes, mask),
     }
 }
 

@@ -1,6 +1,6 @@
-use Rattle.std.proofs.Common.{inr, refl, subst}
-use Rattle.part_damage.specs.column_file.Spellings.{GainsAll}
-use Rattle.part_reader.specs.Granules.{column_in}
+use Rattle.std.proofs.Common.{◌≡◌, IfSome, inr, length, refl, subst, sym}
+use Rattle.std.specs.Option.{option_copied}
+use Rattle.part_reader.specs.Granules.{Gains, column_in}
 use Rattle.part_reader.specs.Readings.{lone}
 use Rattle.part_reader.proofs.AheadBytes.{covered_read}
 use Rattle.part_reader.proofs.ChosenColumns.{run_explained}
@@ -16,7 +16,7 @@ returns-in-Ok-clause-read g c =
       span_is = c.in-Some.ensures;
       bytes = c.between-bytes.result.now;
       read = covered_read here source.most c.fetch.new.ahead c.in-Some.span c.between-bytes.result.now c.in_ok-fetch.ensures.ahead c.in_ok-fetch.ensures.covered c.between-bytes.ensures;
-      gained = subst (λ n. GainsAll n c.between-bytes.result.now c.args.column.now c.decode_onto.new.column) c.row_count.ensures c.in-Ok.ensures.read;
+      gained = subst (λ n. Gains (option_copied c.args.mask) n c.between-bytes.result.now c.args.column.now c.decode.new.column) c.row_count.ensures c.in-Ok.ensures.read;
     })
 
 pub returns-in-Err-clause-damaged : goal.returns-in-Err-clause-damaged
@@ -27,3 +27,7 @@ returns-in-Err-clause-damaged g c =
     run_explained here (lone c.args.granule) c.args.column.now.col_type c.in-Some.span c.row_count.result bytes bytes bytes c.in-Err.error c.misread.result c.in-Some.ensures
     (covered_read here source.most c.fetch.new.ahead c.in-Some.span bytes c.in_ok-fetch.ensures.ahead c.in_ok-fetch.ensures.covered c.between-bytes.ensures)
     c.row_count.ensures refl refl c.in-Err.ensures.fault c.misread.ensures
+
+-- a mask has a place for each row
+pub decode-requires : goal.decode-requires
+decode-requires g c = subst (λ n. IfSome c.args.mask (λ m. length m.now ≡ n)) (sym c.row_count.ensures) c.requires.even

@@ -9,13 +9,11 @@ use Rattle.part_reader.specs.declared.reading.PartFault.TheVariants.{Fault}
 use Rattle.part_reader.specs.Compared.{IsFirstFailing}
 use Rattle.part_reader.specs.Damage.{ExplainsCheck, Tells}
 use Rattle.part_reader.specs.DamagedFile.{damaged_file}
-use Rattle.part_reader.specs.Faults.{IsNoDamage}
 use Rattle.part_damage.specs.Sound.{FirstUnsound, IsLoadedOf}
-use Rattle.part_reader.proofs.CheckedParts.{check_told, file_under, held_sound, is_like, kept_unsound, no_check_fault, unlike_fault}
+use Rattle.part_reader.proofs.CheckedParts.{check_told, file_under, is_like, kept_unsound, no_check_fault, unlike_fault}
 use Rattle.part_reader.proofs.ComparedColumns.{AreRowsCompared, IsIndexKept, counted_compared, gone_over_more, gone_over_none}
 use Rattle.part_reader.proofs.Damages.{error_handed_on}
 use Rattle.part_reader.proofs.Gaining.{handed_on}
-use Rattle.part_reader.proofs.HeldRows.{unsound_rows}
 use Rattle.part_reader.proofs.checking.check_part.Goals as goal
 use Rattle.part_reader.proofs.checking.check_part.Given.{Over}
 
@@ -74,11 +72,6 @@ returns-in_err-check_file-clause-file g c = λ files known is.
     error_handed_on (λ _. damaged_file schema files ≡ None) (Tells (λ found. damaged_file schema files ≡ found)) c.from_residual.result c.in_err-check_file.field-0.0 c.from_residual.ensures.1
     (check_told (g.R.Dir.Dir.files c.args.part.now.dir) files schema c.args.part.now.loaded c.requires.marks c.requires.indexes known is c.in_err-check_file.field-0.0 (fault_of g c))
 
-pub returns-in_err-check_file-clause-sound : goal.returns-in_err-check_file-clause-sound
-returns-in_err-check_file-clause-sound g c = λ rows holds.
-    handed_on IsNoDamage c.from_residual.result c.in_err-check_file.field-0.0 c.from_residual.ensures.1
-    (held_sound g.R.Dir.Dir.files c.args.part.now.loaded.schema c.args.part.now rows holds c.in_err-check_file.field-0.0 (fault_of g c))
-
 -- where none fails, it holds at each place
 kept_all : (Holds : ℕ → Type 0) (o : Option ℕ) → o ≡ None → IsFirstFailing Holds o → (n : ℕ) → Holds n
 kept_all Holds o none first = subst (IsFirstFailing Holds) none first
@@ -107,9 +100,6 @@ pub returns-in-None-clause-file : goal.returns-in-None-clause-file
 returns-in-None-clause-file g c = λ files known is.
     file_under (g.R.Dir.Dir.files c.args.part.now.dir) files c.args.part.now.loaded.schema c.args.part.now.loaded c.requires.marks c.requires.indexes known is None (unsound g c files known is)
 
-pub returns-in-None-clause-held : goal.returns-in-None-clause-held
-returns-in-None-clause-held g c = λ files known is. unsound_rows g.R.Dir.Dir.files c.args.part.now.loaded.schema c.args.part.now files c.requires.marks c.requires.indexes known is (unsound g c files known is)
-
 -- and where what is kept is not that of the rows
 rows_unlike : (g : Over) (c : goal.After-unlike_rows g) → (rows : List Row) × AreRowsCompared (g.R.Dir.Dir.files c.args.part.now.dir) c.args.part.now.loaded.schema c.args.part.now.loaded c.loop-place.agreed rows
 rows_unlike g c =
@@ -128,9 +118,6 @@ returns-in-Some-unlike-clause-damaged g c = unlike_of g c
 pub returns-in-Some-unlike-clause-file : goal.returns-in-Some-unlike-clause-file
 returns-in-Some-unlike-clause-file g c = λ files known is.
     check_told (g.R.Dir.Dir.files c.args.part.now.dir) files c.args.part.now.loaded.schema c.args.part.now.loaded c.requires.marks c.requires.indexes known is c.unlike_rows.result (unlike_of g c)
-
-pub returns-in-Some-unlike-clause-sound : goal.returns-in-Some-unlike-clause-sound
-returns-in-Some-unlike-clause-sound g c = λ rows holds. held_sound g.R.Dir.Dir.files c.args.part.now.loaded.schema c.args.part.now rows holds c.unlike_rows.result (unlike_of g c)
 
 pub returns-in-Some-unlike-clause-arm : goal.returns-in-Some-unlike-clause-arm
 returns-in-Some-unlike-clause-arm g c =

@@ -14,7 +14,7 @@ loop-read-preserved g c =
     record {
       read = λ files known.
           span_more (g.R.Dir.Dir.files c.args.dir.now) files c.args.file c.args.span.start _ _ count _ _ buf rest _ known c.in_ok-count.ensures.bytes c.in_ok-count.ensures.bound (omega (arith, c.len-in-loop-read.ensures)) more.len (c.loop-read.invariant.read files known) more.items;
-      within = span_within _ _ _ _ count _ buf rest more.len c.in_ok-count.ensures.bound (omega (arith, long, length-take c.min-most.result c.loop-read.piece)) c.min-most.ensures c.len.ensures c.loop-read.invariant.within;
+      within = span_within _ _ _ _ _ count _ buf rest more.len c.in_ok-count.ensures.bound (omega (arith, long, length-take c.min-most.result c.loop-read.piece)) c.min-most.ensures c.len.ensures c.loop-read.invariant.within;
       size = c.loop-read.invariant.size;
       arm = arm_answered c.loop-read.invariant.arm c.in_ok-count.ensures.tells c.in_ok-count.ensures.cause.ok;
       room = omega (arith, long, length-take c.min-most.result c.loop-read.piece, length-drop c.min-most.result c.loop-read.piece, length-append buf rest, c.loop-read.invariant.room);

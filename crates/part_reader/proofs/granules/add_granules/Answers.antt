@@ -1,13 +1,11 @@
-use Rattle.std.proofs.Common.{◌≡◌, ◌<◌, length, get_or, refl, sym, ap, ◌∙◌, arith}
+use Rattle.std.proofs.Common.{◌≡◌, ◌<◌, length, get_or, refl, ◌∙◌, arith}
 use Rattle.std.proofs.lemmas.List.{get_or_default}
 use Rattle.std.proofs.lemmas.Option.{slice_get-get_or, slice_get_read}
 use Rattle.mt_outside.proofs.LeftArms.{arm_calm}
 use Rattle.mt_values.specs.Grid.{Cells}
-use Rattle.part_damage.specs.column_file.Marks.{granules}
-use Rattle.part_damage.specs.part_writer.declared.loaded.Loaded.{Loaded}
-use Rattle.part_reader.specs.Faults.{ExplainsEach, IsNoDamage}
+use Rattle.part_reader.specs.Faults.{ExplainsEach}
 use Rattle.part_reader.specs.Granules.{ExplainsChosen, GainsChosen, column_in}
-use Rattle.part_reader.proofs.ChosenColumns.{chosen_even, chosen_rows, chosen_sound, chosen_types}
+use Rattle.part_reader.proofs.ChosenColumns.{chosen_even, chosen_rows, chosen_types}
 use Rattle.part_reader.proofs.Gaining.{handed_on, read_all, read_more, rest_more}
 use Rattle.part_reader.proofs.granules.add_granules.Goals as goal
 use Rattle.part_reader.proofs.granules.add_granules.Given.{Over}
@@ -49,11 +47,6 @@ pub returns-in_err-add_chosen-clause-damaged : goal.returns-in_err-add_chosen-cl
 returns-in_err-add_chosen-clause-damaged g c =
     handed_on (ExplainsEach (λ number t. ExplainsChosen (column_in g.R.Dir.Dir.files c.args.part.now number) c.args.chosen.now t) c.args.places.now c.args.columns.now) c.from_residual.result c.in_err-add_chosen.field-0.0 c.from_residual.ensures.1
     (fault_of g c)
-
-pub returns-in_err-add_chosen-clause-sound : goal.returns-in_err-add_chosen-clause-sound
-returns-in_err-add_chosen-clause-sound g c = λ schema rows holds typed counted.
-    handed_on IsNoDamage c.from_residual.result c.in_err-add_chosen.field-0.0 c.from_residual.ensures.1
-    (chosen_sound g.R.Dir.Dir.files schema c.args.part.now c.args.places.now rows holds c.args.chosen.now c.args.columns.now c.in_err-add_chosen.field-0.0 (counted ∙ sym (ap (λ (l : Loaded). granules l.schema.granularity l.manifest.rows) holds.loaded_is)) typed (fault_of g c))
 
 pub returns-clause-values : goal.returns-clause-values
 returns-clause-values g c = λ schema rows holds typed.

@@ -1,7 +1,5 @@
 use Rattle.std.proofs.Common.{◌∙◌, arith, refl, subst, sym}
 use Rattle.part_reader.specs.Ahead.{AreAhead}
-use Rattle.part_reader.specs.Faults.{IsNoDamage}
-use Rattle.part_reader.proofs.Gaining.{handed_on}
 use Rattle.part_reader.proofs.LeftGranules.{granule_within, own_schema}
 use Rattle.part_reader.proofs.granules.read_granule.Goals as goal
 
@@ -15,10 +13,6 @@ read_block-requires-clause-ahead g c κs within =
     let told = g.R.Dir.Dir.files c.args.part.now.dir in
     let places = c.args.places.now in
     subst (AreAhead told 0 places) (sym c.deref_mut.ensures.value) (c.in-Ok.ensures told 0 places refl)
-
-pub returns-in_err-block-clause-sound : goal.returns-in_err-block-clause-sound
-returns-in_err-block-clause-sound g c = λ schema rows holds.
-    handed_on IsNoDamage c.from_residual.result c.in_err-block.field-0.0 c.from_residual.ensures.1 (c.in_err-block.ensures.sound rows (own_schema g.R.Dir.Dir.files schema c.args.part.now c.args.places.now rows holds) c.requires.number)
 
 pub returns-in-Ok-rows_of_block-clause-rows : goal.returns-in-Ok-rows_of_block-clause-rows
 returns-in-Ok-rows_of_block-clause-rows g c = λ schema rows holds. c.in-Ok-rows_of_block.ensures ∙ c.in_ok-block.ensures.rows rows (own_schema g.R.Dir.Dir.files schema c.args.part.now c.args.places.now rows holds)

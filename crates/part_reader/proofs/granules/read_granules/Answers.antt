@@ -1,19 +1,12 @@
 use Rattle.std.proofs.Common.{subst}
 use Rattle.mt_outside.proofs.LeftArms.{arm_calm}
-use Rattle.part_reader.specs.Faults.{ExplainsAt, IsNoDamage}
+use Rattle.part_reader.specs.Faults.{ExplainsAt}
 use Rattle.part_reader.specs.Granules.{ExplainsChosen, column_in}
 use Rattle.part_reader.specs.Readings.{GivesNext}
 use Rattle.mt_values.specs.Schemas.{column_types}
 use Rattle.part_reader.proofs.Gaining.{handed_on}
-use Rattle.part_reader.proofs.LeftGranules.{given_all, given_explained, given_fewer, given_holds, given_more, own_schema}
+use Rattle.part_reader.proofs.LeftGranules.{given_all, given_explained, given_fewer, given_more, own_schema}
 use Rattle.part_reader.proofs.granules.read_granules.Goals as goal
-
-pub returns-in_err-block-clause-sound : goal.returns-in_err-block-clause-sound
-returns-in_err-block-clause-sound g c = λ schema rows holds counted.
-    handed_on IsNoDamage c.from_residual.result c.in_err-block.field-0.0 c.from_residual.ensures.1
-    (c.in_err-block.ensures.sound rows
-    (given_holds g.R.Dir.Dir.files c.args.part.now.loaded.schema c.args.part.now c.args.places.now c.args.chosen.now c.given.reader c.given.rows.items c.given.invariant.given rows
-    (own_schema g.R.Dir.Dir.files schema c.args.part.now c.args.places.now rows holds)))
 
 pub returns-in_err-block-clause-damaged : goal.returns-in_err-block-clause-damaged
 returns-in_err-block-clause-damaged g c =

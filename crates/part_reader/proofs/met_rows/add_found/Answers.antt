@@ -2,14 +2,13 @@ use Rattle.std.proofs.Common.{◌≡◌, ◌<◌, ◌∙◌, All, ap, arith, sym
 use Rattle.std.proofs.lemmas.List.{length-map}
 use Rattle.mt_values.specs.declared.schema.Column.{Column}
 use Rattle.mt_values.specs.Schemas.{column_types}
-use Rattle.part_reader.specs.Faults.{ExplainsAt, IsNoDamage}
+use Rattle.part_reader.specs.Faults.{ExplainsAt}
 use Rattle.part_reader.specs.Granules.{ExplainsRun, column_in}
 use Rattle.part_reader.specs.Readings.{lone}
 use Rattle.part_reader.specs.Sieves.{count_true}
 use Rattle.part_reader.proofs.CutRows.{explained_at}
 use Rattle.part_reader.proofs.Gaining.{handed_on}
 use Rattle.part_reader.proofs.Holding.{each_typed}
-use Rattle.part_reader.proofs.LeftGranules.{lone_sound}
 use Rattle.part_reader.proofs.MetValues.{all_same, typed_many}
 use Rattle.part_reader.proofs.met_rows.add_found.Goals as goal
 
@@ -40,13 +39,6 @@ add_met-requires-clause-even g c κs inside =
 
 pub returns-clause-count : goal.returns-clause-count
 returns-clause-count g c = c.count_true-count.ensures ∙ ap count_true c.deref.ensures.value
-
-pub returns-in_err-add_met-clause-sound : goal.returns-in_err-add_met-clause-sound
-returns-in_err-add_met-clause-sound g c = λ rows holds within.
-    let part = c.args.source.now.part.now in
-    let places = c.args.wanted.now in
-    handed_on IsNoDamage c.from_residual.result c.in_err-add_met.field-0.0 c.from_residual.ensures.1
-    (lone_sound g.R.Dir.Dir.files c.args.source.now.schema.now part places rows holds c.args.granule c.args.columns.now c.in_err-add_met.field-0.0 within c.requires.columns c.in_err-add_met.ensures.damaged)
 
 pub returns-in_err-add_met-clause-damaged : goal.returns-in_err-add_met-clause-damaged
 returns-in_err-add_met-clause-damaged g c =

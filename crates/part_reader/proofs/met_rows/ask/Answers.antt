@@ -3,15 +3,9 @@ use Rattle.std.proofs.lemmas.List.{length-map}
 use Rattle.mt_values.specs.Grid.{Cells, rows_of}
 use Rattle.mt_values.specs.Schemas.{column_types}
 use Rattle.mt_values.proofs.Grids.{length-rows_of}
-use Rattle.part_reader.specs.Faults.{IsNoDamage}
 use Rattle.part_reader.specs.Sieves.{asking_of, passes}
-use Rattle.part_reader.proofs.Gaining.{handed_on}
 use Rattle.part_reader.proofs.LeftGranules.{columns_even}
 use Rattle.part_reader.proofs.met_rows.ask.Goals as goal
-
-pub returns-in_err-columns-clause-sound : goal.returns-in_err-columns-clause-sound
-returns-in_err-columns-clause-sound g c = λ rows holds within.
-    handed_on IsNoDamage c.from_residual.result c.in_err-columns.field-0.0 c.from_residual.ensures.1 (c.in_err-columns.ensures.sound rows holds within)
 
 pub sift-requires : goal.sift-requires
 sift-requires g c =

@@ -13,4 +13,4 @@ returns-then-is_whole-clause-gained g c =
 pub returns-clause-gained : goal.returns-clause-gained
 returns-clause-gained g c =
     let here = column_in g.R.Dir.Dir.files c.args.source.now.part.now c.args.place in
-    on_ok c.add_granule_where.result (λ read. picks_lone here c.args.granule c.args.mask.now c.args.column.now c.add_granule_where.new.column read c.requires.even) c.add_granule_where.ensures.read
+    on_ok c.add_granule-2.result (λ read. picks_lone here c.args.granule c.args.mask.now c.args.column.now c.add_granule-2.new.column read c.requires.even) c.add_granule-2.ensures.read

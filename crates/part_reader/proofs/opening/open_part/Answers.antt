@@ -3,7 +3,6 @@ use Rattle.mt_values.specs.declared.manifest.Manifest.{Manifest}
 use Rattle.mt_base.specs.declared.name.FileId.TheVariants as file
 use Rattle.mt_values.specs.declared.schema.Schema.{Schema}
 use Rattle.mt_outside.specs.Files.{Files, bytes_of}
-use Rattle.part_damage.specs.part_writer.PartFiles.{loaded_of}
 use Rattle.part_damage.specs.part_writer.declared.loaded.Loaded.{Loaded}
 use Rattle.part_reader.specs.Damage.{ExplainsOpening, IsOpenedFault, Tells}
 use Rattle.part_reader.specs.declared.reading.PartFault.{PartFault}
@@ -11,22 +10,15 @@ use Rattle.part_damage.specs.primary_marks.Keys.{HasMarks}
 use Rattle.part_reader.specs.DamagedFile.{damaged_file}
 use Rattle.part_reader.specs.Faults.{IsNoDamage}
 use Rattle.part_damage.specs.Sound.{AreBlocksUnder, AreIndexes, AreKeysUnder, AreMarksUnder, IsLoadedOf, IsManifestFor, IsOpened, IsReadAs}
-use Rattle.part_reader.proofs.Damages.{error_handed_on, manifest_sound, opened_told}
-use Rattle.part_reader.proofs.DamagedFiles.{file_told, manifest_told, told_file}
+use Rattle.part_reader.proofs.Damages.{error_handed_on, opened_told}
+use Rattle.part_reader.proofs.DamagedFiles.{manifest_told, told_file}
 use Rattle.part_reader.proofs.Gaining.{handed_on}
 use Rattle.part_reader.proofs.Opened.{granule_opening, keys_fault, manifest_is, manifest_opening, marks_fault, one_loaded, skip_fault, there}
-use Rattle.part_reader.proofs.SoundRows.{written_loaded}
 use Rattle.part_reader.proofs.opening.open_part.Goals as goal
 use Rattle.part_reader.proofs.opening.open_part.Given.{Over}
 
 pub returns-in_err-manifest-clause-spelled : goal.returns-in_err-manifest-clause-spelled
 returns-in_err-manifest-clause-spelled g c = λ files loaded known is.
-    error_handed_on (λ p. p.loaded ≡ loaded) IsNoDamage c.from_residual.result c.in_err-manifest.field-0.0 c.from_residual.ensures.1 (c.in_err-manifest.ensures.spelled files loaded.manifest known is.manifest)
-
-pub returns-in_err-manifest-clause-written : goal.returns-in_err-manifest-clause-written
-returns-in_err-manifest-clause-written g c = λ files rows known written.
-    let loaded = loaded_of c.args.schema.now rows in
-    let is = written_loaded c.args.schema.now files rows written c.requires.marks c.requires.indexes in
     error_handed_on (λ p. p.loaded ≡ loaded) IsNoDamage c.from_residual.result c.in_err-manifest.field-0.0 c.from_residual.ensures.1 (c.in_err-manifest.ensures.spelled files loaded.manifest known is.manifest)
 
 pub returns-in_err-manifest-clause-first : goal.returns-in_err-manifest-clause-first
@@ -59,13 +51,6 @@ returns-in_err-places-clause-spelled g c = λ files loaded known is.
     error_handed_on (λ p. p.loaded ≡ loaded) IsNoDamage c.from_residual-in_err-places.result c.in_err-places.field-0.0 c.from_residual-in_err-places.ensures.1
     (c.in_err-places.ensures.spelled files loaded.places known (own_places c.args.schema.now (g.R.Dir.Dir.files c.args.dir) files c.in_ok-manifest.manifest loaded known c.in_ok-manifest.ensures.read is))
 
-pub returns-in_err-places-clause-written : goal.returns-in_err-places-clause-written
-returns-in_err-places-clause-written g c = λ files rows known written.
-    let loaded = loaded_of c.args.schema.now rows in
-    let is = written_loaded c.args.schema.now files rows written c.requires.marks c.requires.indexes in
-    error_handed_on (λ p. p.loaded ≡ loaded) IsNoDamage c.from_residual-in_err-places.result c.in_err-places.field-0.0 c.from_residual-in_err-places.ensures.1
-    (c.in_err-places.ensures.spelled files loaded.places known (own_places c.args.schema.now (g.R.Dir.Dir.files c.args.dir) files c.in_ok-manifest.manifest loaded known c.in_ok-manifest.ensures.read is))
-
 -- a fault of a file that is read after the manifest tells the first damaged file
 module _ (schema : Schema) (told : Option Files) (files : Files) (manifest : Manifest) (has : HasMarks schema) (known : told ≡ Some files) (read : IsReadAs told file.Manifest (λ bytes. IsManifestFor schema bytes manifest)) where
   file_of : (fault : PartFault) → IsOpenedFault told schema manifest fault → Tells (λ found. damaged_file schema files ≡ found) fault
@@ -90,13 +75,6 @@ returns-in_err-marks-clause-spelled g c = λ files loaded known is.
     error_handed_on (λ p. p.loaded ≡ loaded) IsNoDamage c.from_residual-in_err-marks.result c.in_err-marks.field-0.0 c.from_residual-in_err-marks.ensures.1
     (c.in_err-marks.ensures.spelled files loaded.marks known (own_keys c.args.schema.now (g.R.Dir.Dir.files c.args.dir) files c.in_ok-manifest.manifest loaded known c.in_ok-manifest.ensures.read is))
 
-pub returns-in_err-marks-clause-written : goal.returns-in_err-marks-clause-written
-returns-in_err-marks-clause-written g c = λ files rows known written.
-    let loaded = loaded_of c.args.schema.now rows in
-    let is = written_loaded c.args.schema.now files rows written c.requires.marks c.requires.indexes in
-    error_handed_on (λ p. p.loaded ≡ loaded) IsNoDamage c.from_residual-in_err-marks.result c.in_err-marks.field-0.0 c.from_residual-in_err-marks.ensures.1
-    (c.in_err-marks.ensures.spelled files loaded.marks known (own_keys c.args.schema.now (g.R.Dir.Dir.files c.args.dir) files c.in_ok-manifest.manifest loaded known c.in_ok-manifest.ensures.read is))
-
 -- the fault of primary.bin
 keys_of : (g : Over) (c : goal.After-drop-dir-in_err-marks g) → IsOpenedFault (g.R.Dir.Dir.files c.args.dir) c.args.schema.now c.in_ok-manifest.manifest c.in_err-marks.field-0.0
 keys_of g c = keys_fault (g.R.Dir.Dir.files c.args.dir) c.args.schema.now c.in_ok-manifest.manifest c.in_ok-places.places c.in_ok-places.ensures.read c.in_err-marks.field-0.0 c.in_err-marks.ensures.damaged
@@ -116,10 +94,6 @@ pub returns-in_err-indexes-clause-spelled : goal.returns-in_err-indexes-clause-s
 returns-in_err-indexes-clause-spelled g c = λ files loaded known is.
     error_handed_on (λ p. p.loaded ≡ loaded) IsNoDamage c.from_residual-in_err-indexes.result c.in_err-indexes.field-0.0 c.from_residual-in_err-indexes.ensures.1
     (c.in_err-indexes.ensures.spelled files loaded.indexes known (own_indexes c.args.schema.now (g.R.Dir.Dir.files c.args.dir) files c.in_ok-manifest.manifest loaded known c.in_ok-manifest.ensures.read is))
-
-pub returns-in_err-indexes-clause-written : goal.returns-in_err-indexes-clause-written
-returns-in_err-indexes-clause-written g c = λ files rows known written.
-    returns-in_err-indexes-clause-spelled g c files (loaded_of c.args.schema.now rows) known (written_loaded c.args.schema.now files rows written c.requires.marks c.requires.indexes)
 
 -- the fault of the file of a skip index
 index_of_fault : (g : Over) (c : goal.After-drop-dir-in_err-indexes g) → IsOpenedFault (g.R.Dir.Dir.files c.args.dir) c.args.schema.now c.in_ok-manifest.manifest c.in_err-indexes.field-0.0
@@ -161,13 +135,3 @@ returns-clause-loaded g c = λ files known. loaded_there c.args.schema.now (g.R.
 
 pub returns-clause-spelled : goal.returns-clause-spelled
 returns-clause-spelled g c = λ files loaded known is. one_loaded c.args.schema.now files _ loaded (loaded_there c.args.schema.now (g.R.Dir.Dir.files c.args.dir) files _ known (returns-clause-opened g c)) is
-
-pub returns-clause-written : goal.returns-clause-written
-returns-clause-written g c = λ files rows known written.
-    one_loaded c.args.schema.now files _ (loaded_of c.args.schema.now rows) (loaded_there c.args.schema.now (g.R.Dir.Dir.files c.args.dir) files _ known (returns-clause-opened g c)) (written_loaded c.args.schema.now files rows written c.requires.marks c.requires.indexes)
-
-pub returns-clause-sound : goal.returns-clause-sound
-returns-clause-sound g c = λ files known e.
-    manifest_sound c.args.schema.now files c.in_ok-manifest.manifest
-    (there (g.R.Dir.Dir.files c.args.dir) files file.Manifest (λ bytes. IsManifestFor c.args.schema.now bytes c.in_ok-manifest.manifest) known c.in_ok-manifest.ensures.read)
-    (file_told c.args.schema.now files (Some file.Manifest) e)

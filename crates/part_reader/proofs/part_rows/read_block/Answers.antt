@@ -2,8 +2,6 @@ use Rattle.std.proofs.Common.{◌≡◌, ◌∙◌, All, ap, refl, sym, subst, l
 use Rattle.mt_values.specs.Grid.{Cells, Grid, rows_of}
 use Rattle.mt_values.specs.Schemas.{column_types}
 use Rattle.mt_values.proofs.Grids.{length-rows_of}
-use Rattle.part_reader.specs.Faults.{IsNoDamage}
-use Rattle.part_reader.proofs.Gaining.{handed_on}
 use Rattle.part_reader.proofs.LeftGranules.{columns_even, columns_rows, columns_types}
 use Rattle.part_reader.proofs.part_rows.read_block.Goals as goal
 
@@ -30,7 +28,3 @@ pub returns-clause-types : goal.returns-clause-types
 returns-clause-types g c =
     let part = c.args.source.now.part.now in
     ap (λ (b : Grid). b.types) c.of_columns.ensures ∙ columns_types g.R.Dir.Dir.files part c.args.granule (column_types c.args.source.now.schema.now) c.args.places.now c.in_ok-columns.columns.items c.in_ok-columns.ensures.values
-
-pub returns-in_err-columns-clause-sound : goal.returns-in_err-columns-clause-sound
-returns-in_err-columns-clause-sound g c = λ rows holds within.
-    handed_on IsNoDamage c.from_residual.result c.in_err-columns.field-0.0 c.from_residual.ensures.1 (c.in_err-columns.ensures.sound rows holds within)

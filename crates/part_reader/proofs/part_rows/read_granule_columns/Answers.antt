@@ -4,12 +4,11 @@ use Rattle.mt_values.specs.declared.schema.Column.{Column}
 use Rattle.mt_values.specs.Grid.{Cells}
 use Rattle.mt_values.specs.Schemas.{column_types}
 use Rattle.part_reader.specs.Columns.{AreEach}
-use Rattle.part_reader.specs.Faults.{ExplainsAt, IsNoDamage}
+use Rattle.part_reader.specs.Faults.{ExplainsAt}
 use Rattle.part_reader.specs.Granules.{ExplainsRun, GainsChosen, column_in}
 use Rattle.part_reader.specs.Readings.{lone, lone_chosen}
 use Rattle.part_reader.proofs.CutRows.{explained_at, lent_back}
 use Rattle.part_reader.proofs.Gaining.{handed_on}
-use Rattle.part_reader.proofs.LeftGranules.{lone_sound}
 use Rattle.part_reader.proofs.part_rows.read_granule_columns.Goals as goal
 
 pub returns-clause-values : goal.returns-clause-values
@@ -26,14 +25,6 @@ returns-clause-values g c =
       empty = ap (map (λ (x : Cells). x.values)) lent ∙ c.in-Ok.ensures.empty;
       gained = subst (AreEach (λ place. GainsChosen (column_in g.R.Dir.Dir.files part place) (lone_chosen c.args.granule)) c.args.places.now c.deref_mut.result.now) (sym back) c.in_ok-add_columns.ensures.gained;
     }
-
-pub returns-in_err-add_columns-clause-sound : goal.returns-in_err-add_columns-clause-sound
-returns-in_err-add_columns-clause-sound g c = λ rows holds within.
-    let part = c.args.source.now.part.now in
-    let places = c.args.places.now in
-    let typed = ap (map (λ (x : Cells). x.col_type)) c.deref_mut.ensures.value ∙ c.in-Ok.ensures.types in
-    handed_on IsNoDamage c.from_residual.result c.in_err-add_columns.field-0.0 c.from_residual.ensures.1
-    (lone_sound g.R.Dir.Dir.files c.args.source.now.schema.now part places rows holds c.args.granule c.deref_mut.result.now c.in_err-add_columns.field-0.0 within typed c.in_err-add_columns.ensures.damaged)
 
 pub returns-in_err-add_columns-clause-damaged : goal.returns-in_err-add_columns-clause-damaged
 returns-in_err-add_columns-clause-damaged g c =

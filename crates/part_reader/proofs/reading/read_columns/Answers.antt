@@ -4,8 +4,7 @@ use Rattle.std.proofs.lemmas.Option.{slice_get-get_or, slice_get_read}
 use Rattle.mt_outside.proofs.LeftArms.{arm_calm}
 use Rattle.mt_values.specs.Grid.{Cells}
 use Rattle.part_reader.specs.Columns.{IsRead}
-use Rattle.part_reader.specs.Faults.{ExplainsColumn, ExplainsEach, IsNoDamage}
-use Rattle.part_reader.proofs.Holding.{sound_part}
+use Rattle.part_reader.specs.Faults.{ExplainsColumn, ExplainsEach}
 use Rattle.part_reader.proofs.Gaining.{handed_on, read_all, read_even, read_more, read_types, rest_more, rows_read}
 use Rattle.part_reader.proofs.reading.read_columns.Goals as goal
 use Rattle.part_reader.proofs.reading.read_columns.Given.{Over}
@@ -47,12 +46,6 @@ pub returns-in_err-read_column-clause-damaged : goal.returns-in_err-read_column-
 returns-in_err-read_column-clause-damaged g c =
     handed_on (ExplainsEach (ExplainsColumn (g.R.Dir.Dir.files c.args.part.now.dir) c.args.part.now.loaded) c.args.places.now c.args.columns.now) c.from_residual.result c.in_err-read_column.field-0.0 c.from_residual.ensures.1
     (fault_of g c)
-
-pub returns-in_err-read_column-clause-sound : goal.returns-in_err-read_column-clause-sound
-returns-in_err-read_column-clause-sound g c = λ schema rows holds typed.
-    handed_on IsNoDamage c.from_residual.result c.in_err-read_column.field-0.0 c.from_residual.ensures.1
-    (sound_part g.R.Dir.Dir.files schema c.args.part.now c.args.places.now rows c.args.columns.now c.in_err-read_column.field-0.0 holds typed
-    (fault_of g c))
 
 pub returns-clause-read : goal.returns-clause-read
 returns-clause-read g c =

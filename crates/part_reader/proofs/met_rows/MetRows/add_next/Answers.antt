@@ -1,35 +1,15 @@
 use Rattle.std.proofs.Common.{◌≡◌, ◌∙◌, ap, arith, filter_map, length, map, refl, slice_get, subst, sym}
-use Rattle.mt_base.specs.declared.name.FileId.TheVariants as file
 use Rattle.mt_values.specs.Grid.{Cells}
 use Rattle.mt_values.specs.Schemas.{column_types}
-use Rattle.part_reader.specs.Faults.{IsNoDamage}
-use Rattle.part_reader.specs.Parts.{HoldsAt}
 use Rattle.part_reader.specs.Readings.{count_left}
 use Rattle.part_reader.specs.Sieves.{Sifting}
 use Rattle.part_reader.proofs.AheadBytes.{ahead_back}
-use Rattle.part_reader.proofs.Gaining.{handed_on}
-use Rattle.part_reader.proofs.LeftGranules.{rows_within}
 use Rattle.part_reader.proofs.MetValues.{adds_met}
 use Rattle.part_reader.proofs.met_rows.MetRows.add_next.Goals as goal
 
 -- no granule with rows is left
 pub returns-in_default-clause-adds : goal.returns-in_default-clause-adds
 returns-in_default-clause-adds g c = (refl, refl, subst (λ (s : Sifting _). count_left s.reading ≡ 0) c.self.view_is c.in_default.ensures.first)
-
--- what a fault says
-pub returns-in_err-met-clause-sound : goal.returns-in_err-met-clause-sound
-returns-in_err-met-clause-sound g c = λ rows asked wanted.
-    let inside = c.self.inside in
-    handed_on IsNoDamage c.from_residual.result c.in_err-met.field-0.0 c.from_residual.ensures.1
-    (c.in_err-met.ensures.sound rows (subst (λ (s : Sifting _). HoldsAt g.F.Dir.files s.reading.schema s.reading.part (map file.Column s.asked) rows) (sym c.self.view_is) asked)
-    (rows_within inside.source.part.now.loaded c.in-Some.granule c.in-Some.ensures.first.some))
-
-pub returns-in_err-count-clause-sound : goal.returns-in_err-count-clause-sound
-returns-in_err-count-clause-sound g c = λ rows asked wanted.
-    let inside = c.self.inside in
-    handed_on IsNoDamage c.from_residual-in_err-count.result c.in_err-count.field-0.0 c.from_residual-in_err-count.ensures.1
-    (c.in_err-count.ensures.sound rows (subst (λ (s : Sifting _). HoldsAt g.F.Dir.files s.reading.schema s.reading.part (map file.Column s.reading.places) rows) (sym c.self.view_is) wanted)
-    (rows_within inside.source.part.now.loaded c.in-Some.granule c.in-Some.ensures.first.some))
 
 -- the columns have the types of the wanted ones
 pub add_found-requires-clause-columns : goal.add_found-requires-clause-columns
@@ -52,5 +32,5 @@ returns-clause-adds g c =
     let inside = c.self.inside in
     let typed = subst (λ (s : Sifting _). map (λ (x : Cells). x.col_type) c.args.columns.now ≡ filter_map (slice_get (column_types s.reading.schema)) s.reading.places) (sym c.self.view_is) c.requires.columns in
     rw (← c.self.view_is)
-    (adds_met g.F.Dir.files inside.source.schema.now inside.source.part.now inside.query inside.source.chosen.now inside.at c.in-Some.granule c.in_ok-met.met c.args.columns.now c.add_found.new.columns c.in_ok-count.count
+    (adds_met g.F.Dir.files inside.source.schema.now inside.source.part.now inside.query inside.source.most inside.source.chosen.now inside.at c.in-Some.granule c.in_ok-met.met c.args.columns.now c.add_found.new.columns c.in_ok-count.count
     c.in-Some.ensures.within.0 c.in-Some.ensures.first c.in_ok-met.ensures.met typed c.in_ok-count.ensures.count c.in_ok-count.ensures.gained)
