@@ -1,6 +1,5 @@
 -- What is told of parts that hold rows is no damage.
-use Rattle.std.proofs.Common.{◌≡◌, ℕ, ◌<◌, inl, inr, Bool, List, [], ◌∷◌, Option, refl, sym, ap, length, slice_get, arith, Some}
-use Rattle.std.specs.List.{cons_option}
+use Rattle.std.proofs.Common.{◌≡◌, ℕ, ◌<◌, inl, inr, Bool, List, [], ◌∷◌, Option, refl, sym, length, slice_get, arith, Some}
 use Rattle.std.proofs.lemmas.List.{length-map}
 use Rattle.std.proofs.lemmas.List.Elements.{All-cons, All-nil}
 use Rattle.std.proofs.lemmas.Option.{get_or_from_slice_get, slice_get_within}
@@ -8,7 +7,6 @@ use Rattle.mt_base.specs.declared.name.FileId.TheVariants as file
 use Rattle.mt_values.specs.declared.schema.Column.{Column}
 use Rattle.mt_values.specs.declared.schema.Schema.{Schema}
 use Rattle.mt_values.specs.declared.value.ColType.{ColType}
-use Rattle.mt_values.specs.Grid.{Cells}
 use Rattle.mt_values.specs.Schemas.{column_types}
 use Rattle.mt_values.specs.Values.{Row}
 use Rattle.mt_outside.specs.Files.{Files}
@@ -22,9 +20,8 @@ use Rattle.row_merge.specs.part_reader.Granules.{ExplainsChosen, column_in}
 use Rattle.row_merge.specs.part_reader.Parts.{HoldsAt, PartHolds}
 use Rattle.row_merge.specs.part_set.declared.kept.Kept.{Kept}
 use Rattle.row_merge.specs.MergedParts.{ExplainsMerge, ExplainsPart, PartsHold, column_places}
+use Rattle.row_merge.proofs.PartReaderHeldColumns.{chosen_of_one, granule_at}
 use Rattle.row_merge.proofs.PartReaderHolding.{holds_at}
-use Rattle.row_merge.proofs.PartReaderLeftGranules.{lone_sound, rows_within}
-use Rattle.row_merge.proofs.PartReaderPickedValues.{picked_sound}
 use Rattle.row_merge.proofs.Readers.{held_shape}
 use Rattle.final_fold.specs.declared.asking.Wanted.{Wanted}
 use Rattle.final_fold.specs.Asked.{named}
@@ -46,7 +43,7 @@ module _ {F : Type 0} (files_of : F → Option Files) (schema : Schema) (part : 
   chosen_sound places chosen Fault counted e = tt
   chosen_sound places chosen NoMemory counted e = tt
   chosen_sound places chosen (Damaged f place wanted found) counted e =
-      picked_sound files_of schema part e.number rows (own_held e.number e.col_type e.type_is) e.col_type e.type_is chosen (Damaged f place wanted found) counted e.explained
+      chosen_of_one files_of schema part e.number rows (own_held e.number e.col_type e.type_is) e.col_type e.type_is chosen counted (Damaged f place wanted found) e.explained
 
   -- of granules of its columns that were read one by one
   pub whole_sound : (why : PartFault) → ExplainsPart files_of schema part why → IsNoDamage why
@@ -54,9 +51,8 @@ module _ {F : Type 0} (files_of : F → Option Files) (schema : Schema) (part : 
   whole_sound NoMemory e = tt
   whole_sound (Damaged f place wanted found) (inl other) = absurd (other.other (held_shape files_of schema part rows h))
   whole_sound (Damaged f place wanted found) (inr e) =
-      let column : Cells = record { col_type = e.col_type; values = [] } in
-      lone_sound files_of schema part (e.number ∷ []) rows (own_held e.number e.col_type e.type_is) e.explained.granule (column ∷ []) (Damaged f place wanted found) (rows_within part.loaded e.explained.granule e.explained.some)
-      (sym (ap (λ o. cons_option o []) e.type_is)) (record { at = 0; number = e.number; column = column; number_is = refl; column_is = refl; explained = e.explained.explained })
+      granule_at files_of schema part (e.number ∷ []) rows (own_held e.number e.col_type e.type_is) e.explained.granule (Damaged f place wanted found) e.explained.some
+      (record { at = 0; number = e.number; col_type = e.col_type; number_is = refl; type_is = e.type_is; explained = e.explained.explained })
 
 -- ---- parts
 

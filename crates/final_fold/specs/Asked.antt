@@ -67,7 +67,7 @@ unasked_of (c ∷ chosen) (a ∷ asked) = (c && not a) ∷ unasked_of chosen ask
 -- what is read of a part, and what is asked of its rows
 abbrev pub sifting_of_task : {F : Type 0} → Task F → Sifting F
 sifting_of_task task = record {
-  reading = record { schema = task.wanted.schema.now; part = task.part.now; places = task.wanted.places.now; left = task.chosen.now };
+  reading = record { schema = task.wanted.schema.now; part = task.part.now; places = task.wanted.places.now; left = task.chosen.now; most = 65536 };
   asked = task.plan.now.asked.items;
   asking = asking_of task.plan.now.sieves.items;
 }

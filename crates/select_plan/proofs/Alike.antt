@@ -1,7 +1,8 @@
 -- The plan of a condition without a test has one answer for all granules.
-use Rattle.std.proofs.Common.{◌≡◌, ℕ, ◌-◌, ◌/◌, Bool, true, false, refl, List, [], length, map, min, replicate, sym, ap, ◌∙◌}
+use Rattle.std.proofs.Common.{◌≡◌, ℕ, ◌+◌, ◌-◌, ◌/◌, ◌<◌, All, Bool, true, false, refl, List, [], ◌∷◌, get_or, length, map, min, replicate, subst, sym, take, ap, ap₂, ◌∙◌}
 use Rattle.std.specs.List.{fold, range_with_len}
-use Rattle.std.proofs.lemmas.List.{nil_from_length}
+use Rattle.std.proofs.lemmas.List.{nil_from_length, take_more}
+use Rattle.std.proofs.lemmas.List.Elements.{All-head, All-push, All-tail}
 use Rattle.std.proofs.lemmas.List.FromFn.{length-range_with_len}
 use Rattle.mt_values.specs.declared.expr.Test.{Test}
 use Rattle.mt_values.specs.declared.schema.Schema.{Schema}
@@ -9,12 +10,12 @@ use Rattle.mt_values.specs.Conditions.{Condition, tests_of}
 use Rattle.part_reader.specs.declared.reading.Part.{Part}
 use Rattle.part_set.specs.declared.kept.Kept.{Kept}
 use Rattle.mt_model.specs.predicate.Boxes.{can}
-use Rattle.mt_model.specs.predicate.Granules.{chosen_in}
+use Rattle.mt_model.specs.predicate.Granules.{asked_in, boxes_of, chosen_in}
 use Rattle.mt_model.specs.predicate.Masks.{both}
 use Rattle.mt_model.specs.predicate.declared.extent.Can.{Can}
 use Rattle.mt_model.specs.predicate.declared.extent.Extent.{Extent}
-use Rattle.part_reader.proofs.PrimaryMarksGranuleBoxes.{chosen_by_place, is_chosen_at}
-use Rattle.select_plan.specs.Plans.{planned_part, read_of}
+use Rattle.part_reader.proofs.PrimaryMarksGranuleBoxes.{box_count, chosen_by_place, is_chosen_at}
+use Rattle.select_plan.specs.Plans.{asked_among, asked_unknown, planned_part, read_of}
 use Rattle.mt_model.proofs.PredicateNarrowing.{alike, narrowed_alike, untested}
 use Rattle.part_reader.specs.skip_index.declared.index.Index.{Index}
 use Rattle.part_reader.specs.skip_index.Choosing.{block_box, chosen_by}
@@ -55,3 +56,26 @@ pub read_alike : {F : Type 0} (schema : Schema) (is_final : Bool) (c : Condition
     → (is_final ≡ false → n ≡ fold (λ (m : ℕ) (index : Index). min m index.granules) (length k.part.loaded.marks - 1) k.part.loaded.indexes) → chosen ≡ read_of schema is_final c k
 read_alike schema true c e k chosen n none is folded plain = is ∙ (ap (λ m. replicate m (can c e).yes) (folded refl) ∙ marked_alike c e none schema k)
 read_alike schema false c e k chosen n none is folded plain = is ∙ (ap (λ m. replicate m (can c e).yes) (plain refl) ∙ planned_alike c e none schema k)
+
+-- ---- conjuncts without a test
+
+-- a condition without a test is asked in all chosen granules or in none, whatever their boxes are
+asked_one : {F : Type 0} (schema : Schema) (d : Condition Test) (k : Kept (Part F)) (chosen : List Bool) (n : ℕ) → tests_of d ≡ [] → n ≡ length k.part.loaded.marks - 1 → asked_unknown n chosen d ≡ both (asked_in schema k.name.partition d k.part.loaded.marks) chosen
+asked_one schema d k chosen n none many =
+    let unknown : Extent = record { columns = [] } in
+    let boxes = boxes_of schema k.name.partition k.part.loaded.marks in
+    ap (λ (bs : List Bool). both bs chosen)
+    (ap (λ m. replicate m (can d unknown).no) (many ∙ sym (box_count schema k.name.partition k.part.loaded.marks))
+    ∙ sym (alike (λ (e : Extent). (can d e).no) (can d unknown).no boxes (λ e. ap (λ (c : Can). c.no) (untested d e unknown none))))
+
+pub asked_alike : {F : Type 0} (schema : Schema) (conjuncts : List (Condition Test)) (k : Kept (Part F)) (chosen : List Bool) (n : ℕ) → All (λ (d : Condition Test). tests_of d ≡ []) conjuncts → n ≡ length k.part.loaded.marks - 1 → map (asked_unknown n chosen) conjuncts ≡ asked_among schema conjuncts k chosen
+asked_alike schema [] k chosen n none many = refl
+asked_alike schema (d ∷ ds) k chosen n none many =
+    ap₂ (λ (x : List Bool) (xs : List (List Bool)). x ∷ xs) (asked_one schema d k chosen n (All-head (λ (c : Condition Test). tests_of c ≡ []) d ds none) many)
+    (asked_alike schema ds k chosen n (All-tail (λ (c : Condition Test). tests_of c ≡ []) d ds none) many)
+
+-- one condition more without a test
+pub untested_next : (cs : List (Condition Test)) (i : ℕ) (c : Condition Test) → All (λ (d : Condition Test). tests_of d ≡ []) (take i cs) → i < length cs → c ≡ get_or cs i c → length (tests_of c) ≡ 0 → All (λ (d : Condition Test). tests_of d ≡ []) (take (i + 1) cs)
+untested_next cs i c before below is none =
+    let P = λ (d : Condition Test). tests_of d ≡ [] in
+    subst (All P) (sym (take_more cs i c below)) (All-push P (take i cs) (get_or cs i c) before (subst P is (no_tests c none)))

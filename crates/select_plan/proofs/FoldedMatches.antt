@@ -1,7 +1,7 @@
 -- A granule with a row of some key is chosen where any row of the key and the partition meets the condition, whatever its other columns.
-use Rattle.std.proofs.Common.{◌≡◌, ◌⊎◌, inl, inr, ℕ, ◌+◌, ◌*◌, ◌<◌, ◌≤◌, ◌||◌, Bool, true, false, cond, nat_eq, List, [], ◌∷◌, ◌++◌, All, Some, None, refl, sym, ap, ap₂, ◌∙◌, append_assoc, arith, drop, get_or, length, length-take, map, mul_comm, slice_get, subst, take}
+use Rattle.std.proofs.Common.{◌≡◌, ◌⊎◌, inl, inr, ℕ, ◌+◌, ◌*◌, ◌<◌, ◌≤◌, ◌||◌, Bool, true, false, cond, List, [], ◌∷◌, ◌++◌, All, Some, None, refl, sym, ap, ap₂, ◌∙◌, append_assoc, arith, drop, get_or, length, length-take, map, mul_comm, slice_get, subst, take}
 use Rattle.std.proofs.Math.Nat.{mul-le-mul_right}
-use Rattle.std.proofs.lemmas.Bool.{cases_lt, eqb-true}
+use Rattle.std.proofs.lemmas.Bool.{cases_lt}
 use Rattle.std.proofs.lemmas.Grind.{div_ceil_times}
 use Rattle.std.proofs.lemmas.List.{drop-map, drop_all, get_or-map, length-map}
 use Rattle.std.proofs.lemmas.List.Elements.{All-head, All-map, All-tail, All-weaker}
@@ -17,13 +17,12 @@ use Rattle.mt_base.specs.declared.partition.Partition.{Partition}
 use Rattle.mt_values.specs.declared.expr.Test.{Test}
 use Rattle.mt_values.specs.declared.schema.Column.{Column}
 use Rattle.mt_values.specs.declared.schema.Schema.{Schema}
-use Rattle.mt_values.specs.declared.schema.SchemaFault.TheVariants as fault
 use Rattle.mt_values.specs.declared.value.Value.{Value}
 use Rattle.mt_values.specs.declared.value.Value.TheVariants as value
 use Rattle.mt_values.specs.Conditions.{Condition, tests_of}
 use Rattle.mt_values.specs.Engines.{added_version}
 use Rattle.mt_values.specs.Order.{HasPlaces, key_cmp, key_of, value_cmp}
-use Rattle.mt_values.specs.Schemas.{column_types, prefix_fault, schema_fault}
+use Rattle.mt_values.specs.Schemas.{column_types, schema_fault}
 use Rattle.mt_values.specs.Tables.{partition_of, sorting_cmp, sorting_columns}
 use Rattle.mt_values.specs.Tests.{eval}
 use Rattle.mt_values.specs.Values.{Row, type_of, types_of}
@@ -34,7 +33,7 @@ use Rattle.mt_model.specs.predicate.Granules.{chosen_in}
 use Rattle.part_reader.specs.primary_marks.Choosing.{ArePartOf}
 use Rattle.part_reader.specs.primary_marks.Keys.{HasMarks}
 use Rattle.part_reader.proofs.PrimaryMarksMarkedRows.{All-with_final, map-map, with_final-map}
-use Rattle.part_reader.proofs.PrimaryMarksSkippedGranules.{chosen_count, skipped_empty}
+use Rattle.part_reader.proofs.PrimaryMarksSkippedGranules.{begun_by, chosen_count, skipped_empty}
 
 -- ---- keys
 
@@ -70,17 +69,6 @@ front_same (c ∷ cs) rest a b p q e =
     ∙ ap₂ (λ v vs. v ∷ vs) (first_same x y (key_of (cs ++ rest) a) (key_of (cs ++ rest) b) both)
     (front_same cs rest a b (All-tail (λ place. place < length a) c cs p) (All-tail (λ place. place < length b) c cs q) (rest_same x y (key_of (cs ++ rest) a) (key_of (cs ++ rest) b) both))
     ∙ sym (ap (λ o. cons_option o (key_of cs b)) in_b)
-
--- a key that breaks no rule begins with the primary key
-begun_by : (key primary : List ℕ) → prefix_fault key primary ≡ None → (rest : List ℕ) × (key ≡ primary ++ rest)
-begun_by key [] sound = (key, refl)
-begun_by [] (c ∷ cs) sound = cc
-begun_by (own ∷ key) (c ∷ cs) sound = by (nat_eq own c) refl sound (begun_by key cs)
-  where
-    by : (same : Bool) → nat_eq own c ≡ same → cond same (prefix_fault key cs) (Some (fault.NotPrefix c)) ≡ None → (prefix_fault key cs ≡ None → (rest : List ℕ) × (key ≡ cs ++ rest))
-        → (rest : List ℕ) × (own ∷ key ≡ c ∷ (cs ++ rest))
-    by true same ok more = let rest = more ok in (rest.0, ap₂ (λ k ks. k ∷ ks) (eqb-true own c same) rest.1)
-    by false same ok more = cc
 
 map_same : {X Y : Type 0} (f g : X → Y) (xs : List X) → All (λ x. f x ≡ g x) xs → map f xs ≡ map g xs
 map_same f g [] all = refl

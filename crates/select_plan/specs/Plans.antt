@@ -1,5 +1,5 @@
 -- Which granules of a table's parts are read, and how many they are (docs/definitions.md, "Boxes of granules", "Boxes of skip indexes").
-use Rattle.std.specs.Prelude.{[], ◌∷◌, Bool, true, false, List, fold, length, map}
+use Rattle.std.specs.Prelude.{[], ◌∷◌, ℕ, Bool, true, false, List, fold, length, map, replicate}
 use Rattle.std.specs.List.{count_by, list_any, sum_by}
 use Rattle.mt_values.specs.declared.expr.Test.{Test}
 use Rattle.mt_values.specs.declared.schema.Schema.{Schema}
@@ -8,6 +8,7 @@ use Rattle.mt_model.specs.declared.counts.Counts.{Counts}
 use Rattle.part_reader.specs.declared.reading.Part.{Part}
 use Rattle.part_set.specs.declared.kept.Kept.{Kept}
 use Rattle.part_set.specs.declared.kept.Snap.{Snap}
+use Rattle.mt_model.specs.predicate.Boxes.{can}
 use Rattle.mt_model.specs.predicate.Granules.{asked_in, chosen_in}
 use Rattle.mt_model.specs.predicate.Masks.{both}
 use Rattle.part_reader.specs.skip_index.declared.index.Index.{Index}
@@ -30,6 +31,10 @@ planned {F} snap is_final c = map (λ (k : Kept (Part F)). read_of snap.schema i
 -- in which granules of a part conjuncts are asked: of those that are read the ones in whose box the conjunct may be false (docs/definitions.md, "Boxes of granules")
 abbrev pub asked_among : {F : Type 0} → Schema → List (Condition Test) → Kept (Part F) → List Bool → List (List Bool)
 asked_among schema conjuncts k chosen = map (λ d. both (asked_in schema k.name.partition d k.part.loaded.marks) chosen) conjuncts
+
+-- in which of the chosen ones of so many granules a condition is asked where nothing is known of any (docs/definitions.md, "Boxes of granules")
+abbrev pub asked_unknown : ℕ → List Bool → Condition Test → List Bool
+asked_unknown granules chosen d = both (replicate granules (can d (record { columns = [] })).no) chosen
 
 -- the same of each part, of whose granules these are read (docs/definitions.md, "Boxes of granules")
 abbrev pub asked_each : {F : Type 0} → Schema → List (Condition Test) → List (Kept (Part F)) → List (List Bool) → List (List (List Bool))

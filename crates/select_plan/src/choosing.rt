@@ -3,12 +3,13 @@
 // (docs/definitions.md, "Boxes of granules" and "Boxes of skip indexes"). Without a condition every granule is read, and no box is made.
 // Without FINAL a conjunct of the condition is asked in those of these granules in the box of whose marks it may be false. With FINAL
 // the condition is asked of folded rows.
-ghost use Rattle.std.specs.Prelude.{◌≡◌, ◌-◌, ◌&&◌, [], ℕ, IfOk, false, fold, length, map, min, replicate, true};
-ghost use Rattle.mt_values.specs.Conditions.{tests_of};
+ghost use Rattle.std.specs.Prelude.{◌≡◌, ◌-◌, ◌&&◌, [], ℕ, All, IfOk, false, fold, length, map, min, replicate, true};
+ghost use Rattle.mt_values.specs.Conditions.{Condition, tests_of};
+ghost use Rattle.mt_values.specs.declared.expr.Test.{Test};
 ghost use Rattle.mt_values.specs.declared.schema.Schema.{Schema};
 ghost use Rattle.mt_model.specs.predicate.Boxes.{can};
 ghost use Rattle.mt_model.specs.predicate.Masks.{both};
-ghost use Rattle.select_plan.specs.Plans.{asked_among, planned, read_of};
+ghost use Rattle.select_plan.specs.Plans.{asked_among, asked_unknown, planned, read_of};
 ghost use Rattle.mt_model.specs.predicate.declared.extent.Extent.{Extent};
 ghost use Rattle.part_reader.specs.skip_index.Choosing.{chosen_by};
 ghost use Rattle.part_reader.specs.skip_index.declared.index.Index.{Index};
@@ -61,11 +62,51 @@ pub fn ask<F>(
         (λ asked. asked ≡ asked_among schema.now conjuncts.now kept.now chosen.now) }
 {
     let marks = &kept.part.loaded.marks;
+    if !have_tests(conjuncts) {
+        return ask_alike(alloc, conjuncts, marks.granules(), chosen);
+    }
     let boxes = boxes_where(alloc, schema, &kept.name.partition, marks, chosen)?;
     let mut asked = Seq::with_capacity(alloc, conjuncts.len())?;
     for conjunct in conjuncts {
         let own = unsure(alloc, conjunct, boxes.as_slice(), chosen)?;
         asked.push(Seq::of(own))?;
+    }
+    Ok(asked)
+}
+
+/// Whether some of these conditions has a test.
+fn have_tests(conditions: &[Expr<Test>]) -> bool
+    ensures { result ≡ false
+        → All (λ (c : Condition Test). tests_of c ≡ []) conditions.now }
+{
+    for condition in conditions {
+        if !condition.tests().is_empty() {
+            return true;
+        }
+    }
+    false
+}
+
+/// Of each of these conditions in which of the chosen granules it may be false, where so many granules have boxes that say nothing. No box
+/// is made.
+///
+/// `NoMemory` where an allocation failed.
+fn ask_alike(
+    alloc: Global,
+    conditions: &[Expr<Test>],
+    granules: usize,
+    chosen: &[bool],
+) -> Result<Seq<Seq<bool>>, NoMemory>
+    ensures { IfOk result (λ asked. asked ≡ map (asked_unknown granules chosen.now)
+        conditions.now) }
+{
+    let unknown = Extent {
+        columns: Seq::new(alloc),
+    };
+    let mut asked = Seq::with_capacity(alloc, conditions.len())?;
+    for condition in conditions {
+        let own = vec![in alloc; can(condition, &unknown).no; granules]?;
+        asked.push(Seq::of(both(alloc, &own, chosen)?))?;
     }
     Ok(asked)
 }

@@ -1,12 +1,26 @@
-use Rattle.std.proofs.Common.{◌≡◌, ◌∙◌, ◌++◌, ◌∷◌, [], Bool, List, ap, ap₂, map}
+use Rattle.std.proofs.Common.{◌≡◌, ◌∙◌, ◌++◌, ◌∷◌, [], Bool, List, ap, ap₂, map, rules}
+use Rattle.std.proofs.lemmas.Result.{IfOk-weaker}
 use Rattle.mt_values.specs.declared.expr.Test.{Test}
 use Rattle.mt_values.specs.Conditions.{Condition}
 use Rattle.mt_model.specs.predicate.Boxes.{can}
 use Rattle.mt_model.specs.predicate.Granules.{asked_in, boxes_of}
 use Rattle.mt_model.specs.predicate.Masks.{both}
 use Rattle.mt_model.specs.predicate.declared.extent.Extent.{Extent}
+use Rattle.select_plan.specs.Plans.{asked_among, asked_unknown}
+use Rattle.select_plan.proofs.Alike.{asked_alike}
 use Rattle.select_plan.proofs.Planning.{map_next, where_same}
 use Rattle.select_plan.proofs.choosing.ask.Goals as goal
+
+pub returns-then-not-have_tests : goal.returns-then-not-have_tests
+returns-then-not-have_tests g c =
+    let schema = c.args.schema.now in
+    let kept = c.args.kept.now in
+    let conjuncts = c.args.conjuncts.now in
+    let chosen = c.args.chosen.now in
+    let n = c.granules.result in
+    IfOk-weaker c.ask_alike.result (λ asked. asked ≡ map (asked_unknown n chosen) conjuncts) (λ asked. asked ≡ asked_among schema conjuncts kept chosen)
+    (λ asked is. is ∙ asked_alike schema conjuncts kept chosen n (c.have_tests.ensures (search rules)) c.granules.ensures)
+    c.ask_alike.ensures
 
 pub loop-conjunct-preserved : goal.loop-conjunct-preserved
 loop-conjunct-preserved g c =

@@ -1,5 +1,5 @@
 use Rattle.std.proofs.lemmas.Result.{IfOk-weaker}
-use Rattle.std.proofs.Common.{◌≡◌, ◌∙◌, List, Ok, inl, inr, length, map, refl, sym, ap, subst, arith}
+use Rattle.std.proofs.Common.{◌≡◌, ◌∙◌, List, [], Ok, inl, inr, length, map, refl, sym, ap, subst, arith}
 use Rattle.mt_base.specs.Stops.{Refuses}
 use Rattle.mt_values.specs.declared.schema.Column.{Column}
 use Rattle.replies.specs.mt_model.Explain.{Portion, counts_of, explain_line}
@@ -74,13 +74,13 @@ returns-clause-answers g c = λ kept store stands pinned.
     let held = snap_held files (history kept) store stands text.table snap pinned in
     let asked : query_of schema.columns text ≡ Ok q = ap (λ (cs : List Column). query_of cs text) (sym c.as_slice.ensures) ∙ c.in-Ok.ensures in
     let ps : List Portion = map portion_of (core_parts text.table snap.parts.items held.rows) in
-    let counted : c.in-Some.counts ≡ counts_of schema text.is_final q.condition ps =
+    let counted : c.in-Some.counts ≡ counts_of schema [] text.is_final q.condition ps =
     c.in-Some.ensures ∙ ap counts_over (c.in_ok-planned.ensures ∙ plan_is files schema q.condition text.table text.is_final snap.parts.items held.rows held.hold)
-    ∙ counts_are schema text.is_final q.condition ps in
+    ∙ counts_are schema [] text.is_final q.condition ps in
     let place : snap.length ≡ length kept.list = pinned.length_is ∙ (stands.length_is ∙ length_history kept) in
     IfOk-weaker c.explained.result _ _ (λ reply is n.
     explains_all n kept reply text (explains (history kept) text schema q ps c.in-Some.counts (length kept.list) reply there asked
-    (portions_stand (history kept) text.table schema there (core_parts text.table snap.parts.items held.rows) held.stand) counted (is ∙ ap (explain_line c.in-Some.counts) place))) c.explained.ensures
+    (portions_stand (history kept) text.table schema there (core_parts text.table snap.parts.items held.rows) held.stand) (stands.unaltered text.table) counted (is ∙ ap (explain_line c.in-Some.counts) place))) c.explained.ensures
 
 pub returns-clause-accounts : goal.returns-clause-accounts
 returns-clause-accounts g c = λ opened disk arm.
