@@ -26,29 +26,30 @@ use Rattle.row_merge.proofs.SealedMerges.{whole_rows}
 
 -- ---- readers, one after another
 
-module _ {F : Type 0} (schema : Schema) (columns : List ℕ) where
-  abbrev reader_for : Kept (Part F) → List Bool → Reading F
-  reader_for k own = record { schema = schema; part = k.part; places = columns; left = own }
+-- a reader of these columns of the chosen granules of a part
+abbrev pub reader_for : {F : Type 0} → Schema → List ℕ → Kept (Part F) → List Bool → ℕ → Reading F
+reader_for schema columns k own most = record { schema = schema; part = k.part; places = columns; left = own; most = most }
 
+module _ {F : Type 0} (schema : Schema) (columns : List ℕ) (most : ℕ) where
   -- the next of them
   pub readers_next : (parts : List (Kept (Part F))) (chosen : List (List Bool)) (at : ℕ) (k : Kept (Part F)) (own : List Bool) → slice_get parts at ≡ Some k → slice_get chosen at ≡ Some own
-      → take (at + 1) (chosen_readers schema columns parts chosen) ≡ take at (chosen_readers schema columns parts chosen) ++ record { schema = schema; part = k.part; places = columns; left = own } ∷ []
+      → take (at + 1) (chosen_readers schema columns most parts chosen) ≡ take at (chosen_readers schema columns most parts chosen) ++ record { schema = schema; part = k.part; places = columns; left = own; most = most } ∷ []
   readers_next [] chosen at k own k_is own_is = cc
   readers_next (p ∷ parts) [] at k own k_is own_is = cc
   readers_next (p ∷ parts) (c ∷ chosen) zero k own k_is own_is =
-      ap₂ (λ (x : Kept (Part F)) (y : List Bool). reader_for x y ∷ []) (same_Some p k k_is) (same_Some c own own_is)
+      ap₂ (λ (x : Kept (Part F)) (y : List Bool). reader_for schema columns x y most ∷ []) (same_Some p k k_is) (same_Some c own own_is)
   readers_next (p ∷ parts) (c ∷ chosen) (suc at) k own k_is own_is =
       let one : suc at + 1 ≡ suc (at + 1) = omega arith in
-      ap (λ n. take n (reader_for p c ∷ chosen_readers schema columns parts chosen)) one ∙ ap (λ (rs : List (Reading F)). reader_for p c ∷ rs) (readers_next parts chosen at k own k_is own_is)
+      ap (λ n. take n (reader_for schema columns p c most ∷ chosen_readers schema columns most parts chosen)) one ∙ ap (λ (rs : List (Reading F)). reader_for schema columns p c most ∷ rs) (readers_next parts chosen at k own k_is own_is)
 
   -- how many there are
-  pub readers_many : (parts : List (Kept (Part F))) (chosen : List (List Bool)) → length chosen ≡ length parts → length (chosen_readers schema columns parts chosen) ≡ length parts
+  pub readers_many : (parts : List (Kept (Part F))) (chosen : List (List Bool)) → length chosen ≡ length parts → length (chosen_readers schema columns most parts chosen) ≡ length parts
   readers_many [] chosen same = refl
   readers_many (p ∷ parts) [] same = absurd (omega (arith, same))
   readers_many (p ∷ parts) (c ∷ chosen) same = ap suc (readers_many parts chosen (omega (arith, same)))
 
   -- each is of all columns of its part
-  pub chosen_opened : (parts : List (Kept (Part F))) (chosen : List (List Bool)) → columns ≡ column_places schema → length chosen ≡ length parts → AllZip (IsReaderOf schema) parts (chosen_readers schema columns parts chosen)
+  pub chosen_opened : (parts : List (Kept (Part F))) (chosen : List (List Bool)) → columns ≡ column_places schema → length chosen ≡ length parts → AllZip (IsReaderOf schema) parts (chosen_readers schema columns most parts chosen)
   chosen_opened [] chosen are same = tt
   chosen_opened (p ∷ parts) [] are same = absurd (omega (arith, same))
   chosen_opened (p ∷ parts) (c ∷ chosen) are same = (record { schema_is = refl; part_is = refl; places_are = are }, chosen_opened parts chosen are (omega (arith, same)))
@@ -57,15 +58,15 @@ module _ {F : Type 0} (schema : Schema) (columns : List ℕ) where
   pub record IsAt (parts : List (Kept (Part F))) (chosen : List (List Bool)) (at : ℕ) (k : Kept (Part F)) (r : Reading F) : Type 0 where
     pub own : List Bool
     pub own_is : slice_get chosen at ≡ Some own
-    pub reader_is : r ≡ record { schema = schema; part = k.part; places = columns; left = own }
+    pub reader_is : r ≡ record { schema = schema; part = k.part; places = columns; left = own; most = most }
 
-  pub reader_at : (parts : List (Kept (Part F))) (chosen : List (List Bool)) (at : ℕ) (k : Kept (Part F)) (r : Reading F) → slice_get parts at ≡ Some k → slice_get (chosen_readers schema columns parts chosen) at ≡ Some r → IsAt parts chosen at k r
+  pub reader_at : (parts : List (Kept (Part F))) (chosen : List (List Bool)) (at : ℕ) (k : Kept (Part F)) (r : Reading F) → slice_get parts at ≡ Some k → slice_get (chosen_readers schema columns most parts chosen) at ≡ Some r → IsAt parts chosen at k r
   reader_at [] chosen at k r k_is r_is = cc
   reader_at (p ∷ parts) [] at k r k_is r_is = cc
   reader_at (p ∷ parts) (c ∷ chosen) zero k r k_is r_is = record {
     own = c;
     own_is = refl;
-    reader_is = sym (same_Some (reader_for p c) r r_is) ∙ ap (λ (x : Kept (Part F)). reader_for x c) (same_Some p k k_is);
+    reader_is = sym (same_Some (reader_for schema columns p c most) r r_is) ∙ ap (λ (x : Kept (Part F)). reader_for schema columns x c most) (same_Some p k k_is);
   }
   reader_at (p ∷ parts) (c ∷ chosen) (suc at) k r k_is r_is =
       let there = reader_at parts chosen at k r k_is r_is in
@@ -73,9 +74,9 @@ module _ {F : Type 0} (schema : Schema) (columns : List ℕ) where
 
 -- ---- what they have to give
 
-module _ {F : Type 0} (files_of : F → Option Files) (schema : Schema) (columns : List ℕ) where
+module _ {F : Type 0} (files_of : F → Option Files) (schema : Schema) (columns : List ℕ) (most : ℕ) where
   pub chosen_rests : (parts : List (Kept (Part F))) (chosen : List (List Bool)) (rows : List (List Row)) → columns ≡ column_places schema → PartsHold files_of schema parts rows → length chosen ≡ length parts
-      → rests_of (chosen_readers schema columns parts chosen) rows ≡ chosen_inputs schema.granularity chosen rows
+      → rests_of (chosen_readers schema columns most parts chosen) rows ≡ chosen_inputs schema.granularity chosen rows
   chosen_rests [] [] [] are hold same = refl
   chosen_rests [] [] (r ∷ rows) are hold same = absurd hold
   chosen_rests [] (c ∷ chosen) rows are hold same = absurd (omega (arith, same))
@@ -104,10 +105,10 @@ module _ {F : Type 0} (files_of : F → Option Files) where
     explained = record { run = lone e.explained.granule; run_is = lone_run own e.explained.granule e.explained.there; explained = e.explained.explained };
   }
 
-  chosen_says : (i : Inputs F) (columns : List ℕ) (chosen : List (List Bool)) → columns ≡ column_places i.schema.now → length chosen ≡ length i.parts.now → (e : PartName × PartFault)
-      → ExplainsStream files_of i (chosen_readers i.schema.now columns i.parts.now chosen) e → ExplainsWholes files_of i.schema.now i.parts.now chosen e
-  chosen_says i columns chosen are same e x =
-      let there = reader_at i.schema.now columns i.parts.now chosen x.at x.kept x.reader x.kept_is x.reader_is in
+  chosen_says : (i : Inputs F) (columns : List ℕ) (most : ℕ) (chosen : List (List Bool)) → columns ≡ column_places i.schema.now → length chosen ≡ length i.parts.now → (e : PartName × PartFault)
+      → ExplainsStream files_of i (chosen_readers i.schema.now columns most i.parts.now chosen) e → ExplainsWholes files_of i.schema.now i.parts.now chosen e
+  chosen_says i columns most chosen are same e x =
+      let there = reader_at i.schema.now columns most i.parts.now chosen x.at x.kept x.reader x.kept_is x.reader_is in
       record {
         at = x.at;
         kept = x.kept;
@@ -120,8 +121,8 @@ module _ {F : Type 0} (files_of : F → Option Files) where
       }
 
   -- the same where parts were read
-  pub chosen_told : {A : Type 0} (result : Result A (PartName × PartFault)) (i : Inputs F) (readers : List (Reading F)) → IfErr result (ExplainsStream files_of i readers) → (columns : List ℕ) (chosen : List (List Bool))
-      → readers ≡ chosen_readers i.schema.now columns i.parts.now chosen → columns ≡ column_places i.schema.now → length chosen ≡ length i.parts.now → IfErr result (ExplainsWholes files_of i.schema.now i.parts.now chosen)
-  chosen_told result i readers said columns chosen is are same =
+  pub chosen_told : {A : Type 0} (result : Result A (PartName × PartFault)) (i : Inputs F) (readers : List (Reading F)) → IfErr result (ExplainsStream files_of i readers) → (columns : List ℕ) (most : ℕ) (chosen : List (List Bool))
+      → readers ≡ chosen_readers i.schema.now columns most i.parts.now chosen → columns ≡ column_places i.schema.now → length chosen ≡ length i.parts.now → IfErr result (ExplainsWholes files_of i.schema.now i.parts.now chosen)
+  chosen_told result i readers said columns most chosen is are same =
       IfErr-weaker result (ExplainsStream files_of i readers) (ExplainsWholes files_of i.schema.now i.parts.now chosen)
-      (λ e x. chosen_says i columns chosen are same e (subst (λ (rs : List (Reading F)). ExplainsStream files_of i rs e) is x)) said
+      (λ e x. chosen_says i columns most chosen are same e (subst (λ (rs : List (Reading F)). ExplainsStream files_of i rs e) is x)) said

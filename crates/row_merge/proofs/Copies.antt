@@ -115,6 +115,8 @@ module _ {F : Type 0} (i : Inputs F) (old new : Stream F) (s : Stretch) (t : Tak
         let now = st.counts shaped in
         record {
           read = subst (λ (h : Held). h.read ≤ total (ahead_of new.cursors.items)) (sym held) (let read = now.read in omega (arith, fewer_in, read));
+          exact = λ small. subst (λ (h : Held). h.read ≡ total (ahead_of new.cursors.items)) (sym held) (let all = now.exact small in omega (arith, fewer_in, all));
+          reached = subst (λ (h : Held). h.read ≤ h.most_read) (sym held) (let most = now.reached in omega (arith, most));
           few = subst (All (λ (rows : List Row). length rows ≤ i.schema.now.granularity)) (sym t.ahead_is)
               (All-set (λ (rows : List Row). length rows ≤ i.schema.now.granularity) before s.input (drop s.to block) (few now.few) now.few);
           within = subst (IsHeldWithin (length i.parts.now) i.schema.now.granularity) (sym held) (took_some_within (length i.parts.now) i.schema.now.granularity (s.to - s.from) old.held now.within);

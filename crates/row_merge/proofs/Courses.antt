@@ -18,12 +18,13 @@ use Rattle.row_merge.specs.Merging.{IsTaken, Merging}
 use Rattle.row_merge.proofs.Keys.{key_exact, key_total}
 use Rattle.row_merge.proofs.Taking.{all_merged, ended, next_after, taken}
 
-is_same : (r : Ordering) → is_ne r ≡ false → r ≡ Equal
+-- what two tests of an order say
+pub is_same : (r : Ordering) → is_ne r ≡ false → r ≡ Equal
 is_same Less e = cc
 is_same Equal e = refl
 is_same Greater e = cc
 
-other_way : (r : Ordering) → is_ne r ≡ true → is_eq (ordering_reverse r) ≡ false
+pub other_way : (r : Ordering) → is_ne r ≡ true → is_eq (ordering_reverse r) ≡ false
 other_way Less e = refl
 other_way Equal e = cc
 other_way Greater e = refl

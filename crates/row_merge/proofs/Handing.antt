@@ -141,18 +141,3 @@ module _ {F S : Type 0} (run : List Row → List Row → Type 0) (holds : S → 
 
       rests : rests_of later.readers.items rows ≡ rests_of new.readers.items rows
       rests = ap (λ (rs : List (Reading F)). rests_of rs rows) readers
-
-  -- one row more
-  module _ (s new : Stream F) (current after : Option (Current S)) (out more : Growing) (row : Row) (m : IsMerging run holds takes i rows s current out) (t : TakesRow i.places.now rows m.left row new) where
-    pub row_is_own : IsTableRow i.schema.now row
-    row_is_own = own_taken (IsTableRow i.schema.now) i.places.now m.left t.after row t.taken m.own
-
-    pub merge_goes_on : (kept : List Row) → HasRows more (m.done ++ kept) → HandsOver i.places.now run holds takes (column_types i.schema.now) rows (m.done ++ kept) t.after after → IsMerging run holds takes i rows new after more
-    merge_goes_on kept has over = record {
-      done = m.done ++ kept;
-      left = t.after;
-      has = has;
-      over = over;
-      left_is = t.left_is;
-      own = own_left (IsTableRow i.schema.now) i.places.now m.left t.after row t.taken m.own;
-    }

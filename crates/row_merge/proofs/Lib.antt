@@ -8,6 +8,7 @@ pub mod Courses
 pub mod Cursors
 pub mod Explaining
 pub mod Filling
+pub mod FirstGranules
 pub mod Folds
 pub mod GivenSinks
 pub mod Handing
@@ -19,13 +20,14 @@ pub mod Lone
 pub mod Merges
 pub mod Nexts
 pub mod Opening
+pub mod Passed
 pub mod SealedMerges
+pub mod Shares
 pub mod Ranking
 pub mod Readers
 pub mod Refilling
 pub mod Refills
 pub mod Runs
-pub mod SameTypes
 pub mod Sorted
 pub mod TableMerges
 pub mod TableRules
@@ -45,10 +47,10 @@ pub use Rattle.part_history.proofs.Portions as PartHistoryPortions
 pub use Rattle.part_reader.proofs.ChosenItems as PartReaderChosenItems
 pub use Rattle.part_reader.proofs.CutRows as PartReaderCutRows
 pub use Rattle.part_reader.proofs.Gaining as PartReaderGaining
+pub use Rattle.part_reader.proofs.HeldColumns as PartReaderHeldColumns
 pub use Rattle.part_reader.proofs.Holding as PartReaderHolding
 pub use Rattle.part_reader.proofs.LeftGranules as PartReaderLeftGranules
 pub use Rattle.part_reader.proofs.MetLeft as PartReaderMetLeft
-pub use Rattle.part_reader.proofs.PickedValues as PartReaderPickedValues
 pub use Rattle.part_reader.proofs.SiftedRows as PartReaderSiftedRows
 pub use Rattle.rule_replacing.proofs.RuleLawAggregated
 pub use Rattle.rule_replacing.proofs.RuleLawAllRows

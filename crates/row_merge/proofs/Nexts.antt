@@ -112,6 +112,8 @@ module _ {F : Type 0} (i : Inputs F) (old new : Stream F) (taken : ℕ × Row) (
         let before = st.counts shaped in
         record {
           read = subst (λ (h : Held). h.read ≤ total (ahead_of new.cursors.items)) (sym held) (omega (arith, fewer_in, before.read));
+          exact = λ small. subst (λ (h : Held). h.read ≡ total (ahead_of new.cursors.items)) (sym held) (omega (arith, fewer_in, before.exact small));
+          reached = subst (λ (h : Held). h.read ≤ h.most_read) (sym held) (omega (arith, before.reached));
           few = few_taken i.places.now i.schema.now.granularity (ahead_of old.cursors.items) (ahead_of new.cursors.items) taken.0 taken.1 t.first before.few;
           within = subst (IsHeldWithin (length i.parts.now) i.schema.now.granularity) (sym held) (took_within (length i.parts.now) i.schema.now.granularity old.held before.within);
         };
@@ -193,6 +195,8 @@ counted_stream i old new st cursors readers ranked held none = record {
       let before = st.counts shaped in
       record {
         read = omega (arith, held.read, before.read, ap (λ (cs : List Cursor). total (ahead_of cs)) cursors);
+        exact = λ small. held.read ∙ before.exact small ∙ sym (ap (λ (cs : List Cursor). total (ahead_of cs)) cursors);
+        reached = omega (arith, held.read, held.most, before.reached);
         few = subst (λ (cs : List Cursor). All (λ (rows : List Row). length rows ≤ i.schema.now.granularity) (ahead_of cs)) (sym cursors) before.few;
         within = held.within (length i.parts.now) i.schema.now.granularity before.within;
       };

@@ -21,7 +21,7 @@ use Rattle.row_merge.specs.Heads.{AreComparable, AreOfTypes, ahead_of}
 use Rattle.row_merge.specs.Held.{IsHeldWithin, no_rows}
 use Rattle.row_merge.specs.Merging.{AreRanked, ahead_at}
 use Rattle.row_merge.specs.Streams.{AreInputs, IsReaderOf, IsStream, no_cursor, reader_of}
-use Rattle.row_merge.proofs.Totals.{none_within}
+use Rattle.row_merge.proofs.Totals.{none_within, total_none}
 
 -- ---- no row is in memory
 
@@ -46,17 +46,17 @@ none_are_ranked places ahead none = record {
 
 module _ {F : Type 0} where
   -- one more of them
-  pub reader_like : (schema : Schema) (plan : Plan) (k : Kept (Part F)) (r : Reading F) (places : List ℕ) (left : List Bool) → r ≡ record { schema = schema; part = k.part; places = places; left = left }
-      → places ≡ plan.columns.items → left ≡ plan.chosen.items → r ≡ reader_of schema plan k
-  reader_like schema plan k r places left is columns chosen =
-      let with : List ℕ → List Bool → Reading F = λ ps cs. record { schema = schema; part = k.part; places = ps; left = cs } in
-      is ∙ ap₂ with columns chosen
+  pub reader_like : (schema : Schema) (plan : Plan) (most : ℕ) (k : Kept (Part F)) (r : Reading F) (places : List ℕ) (left : List Bool) (own : ℕ) → r ≡ record { schema = schema; part = k.part; places = places; left = left; most = own }
+      → places ≡ plan.columns.items → left ≡ plan.chosen.items → own ≡ most → r ≡ reader_of schema plan most k
+  reader_like schema plan most k r places left own is columns chosen bytes =
+      let with : List ℕ → List Bool → Reading F = λ ps cs. record { schema = schema; part = k.part; places = ps; left = cs; most = own } in
+      is ∙ ap₂ with columns chosen ∙ ap (λ n. reader_of schema plan n k) bytes
 
-  pub one_reader_more : (schema : Schema) (plan : Plan) (parts : List (Kept (Part F))) (i : ℕ) (k : Kept (Part F)) (readers pushed : List (Reading F)) (r : Reading F) → i < length parts → k ≡ get_or parts i k → readers ≡ map (reader_of schema plan) (take i parts)
-      → r ≡ reader_of schema plan k → pushed ≡ readers ++ r ∷ [] → pushed ≡ map (reader_of schema plan) (take (i + 1) parts)
-  one_reader_more schema plan parts i k readers pushed r below is are own more =
-      more ∙ ap₂ (λ (rs : List (Reading F)) (x : Reading F). rs ++ x ∷ []) are own ∙ sym (map-append (reader_of schema plan) (take i parts) (k ∷ []))
-      ∙ ap (map (reader_of schema plan)) (sym (take_more parts i k below ∙ ap (λ (x : Kept (Part F)). take i parts ++ x ∷ []) (sym is)))
+  pub one_reader_more : (schema : Schema) (plan : Plan) (most : ℕ) (parts : List (Kept (Part F))) (i : ℕ) (k : Kept (Part F)) (readers pushed : List (Reading F)) (r : Reading F) → i < length parts → k ≡ get_or parts i k → readers ≡ map (reader_of schema plan most) (take i parts)
+      → r ≡ reader_of schema plan most k → pushed ≡ readers ++ r ∷ [] → pushed ≡ map (reader_of schema plan most) (take (i + 1) parts)
+  one_reader_more schema plan most parts i k readers pushed r below is are own more =
+      more ∙ ap₂ (λ (rs : List (Reading F)) (x : Reading F). rs ++ x ∷ []) are own ∙ sym (map-append (reader_of schema plan most) (take i parts) (k ∷ []))
+      ∙ ap (map (reader_of schema plan most)) (sym (take_more parts i k below ∙ ap (λ (x : Kept (Part F)). take i parts ++ x ∷ []) (sym is)))
 
 -- ---- a stream
 
@@ -76,6 +76,8 @@ module _ {F : Type 0} (i : Inputs F) (own : AreInputs i) (s : Stream F) (readers
     none_made = ap (λ (h : Held). h.made) held_is;
     counts = λ shaped. record {
       read = omega (arith, ap (λ (h : Held). h.read) held_is);
+      exact = λ small. ap (λ (h : Held). h.read) held_is ∙ sym (total_none (ahead_of s.cursors.items) opened_none);
+      reached = omega (arith, ap (λ (h : Held). h.read) held_is);
       few = All-weaker (λ (rows : List Row). rows ≡ []) (λ (rows : List Row). length rows ≤ i.schema.now.granularity) (λ rows none. omega (arith, ap length none)) (ahead_of s.cursors.items) opened_none;
       within = subst (IsHeldWithin (length i.parts.now) i.schema.now.granularity) (sym held_is) (none_within (length i.parts.now) i.schema.now.granularity);
     };

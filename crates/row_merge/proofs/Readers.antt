@@ -105,13 +105,13 @@ module _ {F : Type 0} (files_of : F → Option Files) (schema : Schema) where
 
   -- ---- nothing was read yet
 
-  pub readers_opened : (plan : Plan) (parts : List (Kept (Part F))) → plan.columns.items ≡ column_places schema → AllZip (IsReaderOf schema) parts (map (reader_of schema plan) parts)
-  readers_opened plan [] columns = tt
-  readers_opened plan (k ∷ ks) columns = (record { schema_is = refl; part_is = refl; places_are = columns }, readers_opened plan ks columns)
+  pub readers_opened : (plan : Plan) (most : ℕ) (parts : List (Kept (Part F))) → plan.columns.items ≡ column_places schema → AllZip (IsReaderOf schema) parts (map (reader_of schema plan most) parts)
+  readers_opened plan most [] columns = tt
+  readers_opened plan most (k ∷ ks) columns = (record { schema_is = refl; part_is = refl; places_are = columns }, readers_opened plan most ks columns)
 
-  module _ (plan : Plan) (n : ℕ) (columns : plan.columns.items ≡ column_places schema) (all : plan.chosen.items ≡ replicate n true) where
+  module _ (plan : Plan) (most n : ℕ) (columns : plan.columns.items ≡ column_places schema) (all : plan.chosen.items ≡ replicate n true) where
     -- all rows of a part are still to be given
-    whole_left : (k : Kept (Part F)) (own : List Row) → k.part.loaded.manifest.rows ≤ schema.granularity * n → PartHolds files_of schema k.part own → rows_left (reader_of schema plan k) own ≡ own
+    whole_left : (k : Kept (Part F)) (own : List Row) → k.part.loaded.manifest.rows ≤ schema.granularity * n → PartHolds files_of schema k.part own → rows_left (reader_of schema plan most k) own ≡ own
     whole_left k own enough h =
         let g : ℕ = k.part.loaded.schema.granularity in
         let shape = held_shape k.part own h in
@@ -121,13 +121,13 @@ module _ {F : Type 0} (files_of : F → Option Files) (schema : Schema) where
         ∙ whole_rows schema plan.columns.items own columns h.typed
 
     pub opened_rests : (parts : List (Kept (Part F))) (rows : List (List Row)) → All (λ (k : Kept (Part F)). k.part.loaded.manifest.rows ≤ schema.granularity * n) parts → PartsHold files_of schema parts rows
-        → rests_of (map (reader_of schema plan) parts) rows ≡ rows
+        → rests_of (map (reader_of schema plan most) parts) rows ≡ rows
     opened_rests [] [] enough hold = refl
     opened_rests [] (own ∷ rows) enough hold = absurd hold
     opened_rests (k ∷ ks) [] enough hold = absurd hold
     opened_rests (k ∷ ks) (own ∷ rows) enough hold =
         let room = All-head (λ (q : Kept (Part F)). q.part.loaded.manifest.rows ≤ schema.granularity * n) k ks enough in
-        ap (λ (z : List Row). z ∷ rests_of (map (reader_of schema plan) ks) rows) (whole_left k own room hold.0)
+        ap (λ (z : List Row). z ∷ rests_of (map (reader_of schema plan most) ks) rows) (whole_left k own room hold.0)
         ∙ ap (λ (zs : List (List Row)). own ∷ zs) (opened_rests ks rows (All-tail (λ (q : Kept (Part F)). q.part.loaded.manifest.rows ≤ schema.granularity * n) k ks enough) hold.1)
 
   -- ---- what a reader gives

@@ -1,7 +1,7 @@
 -- A part of which no row is in memory is read on.
-use Rattle.std.proofs.Common.{◌≡◌, ℕ, ◌+◌, ◌*◌, ◌<◌, ◌≤◌, List, [], ◌++◌, Option, length, drop, set, get_or, refl, sym, ap, ◌∙◌, subst, arith}
+use Rattle.std.proofs.Common.{◌≡◌, ℕ, ◌+◌, ◌*◌, ◌<◌, ◌≤◌, List, [], ◌++◌, Option, length, drop, set, get_or, slice_get, min, ◌^◌, Some, refl, sym, ap, ◌∙◌, subst, arith}
 use Rattle.std.specs.List.{All, AllZip}
-use Rattle.std.proofs.lemmas.List.{get_or-set_other, length-map, set-get_or}
+use Rattle.std.proofs.lemmas.List.{get_or-set_other, get_or-set_same, length-map, set-get_or}
 use Rattle.std.proofs.lemmas.Option.{slice_get-get_or, slice_get_read}
 use Rattle.std.proofs.lemmas.List.Elements.{All-get_or, All-same, All-set}
 use Rattle.mt_values.specs.Grid.{Grid}
@@ -26,10 +26,11 @@ use Rattle.row_merge.specs.Held.{IsHeldWithin, read_more}
 use Rattle.row_merge.specs.Merged.{rows_of_all}
 use Rattle.row_merge.specs.MergedParts.{HasShape, PartsHold}
 use Rattle.row_merge.specs.Merging.{AreRanked, ahead_at}
-use Rattle.row_merge.specs.Streams.{AreLater, AreShaped, ExplainsStream, IsReaderOf, IsRefilled, IsStream, count_of_rests, rests_of, rows_to_come}
+use Rattle.row_merge.specs.Streams.{AreLater, AreShaped, ExplainsStream, IsReaderOf, IsRefilled, IsStream, IsUnread, IsUnreadAt, ReadsPart, count_of_rests, rests_of, rows_to_come}
 use Rattle.row_merge.proofs.Explaining.{given_later, left_among, one_later, same_later}
+use Rattle.row_merge.proofs.FirstGranules.{get_set_other, none_first, some_first}
 use Rattle.row_merge.proofs.Readers.{count_set, given_few, given_some, reader_is, reader_stays, rest_at, rests_long, rests_set, zip_long}
-use Rattle.row_merge.proofs.Totals.{few_total, read_counts, read_within, total, total_set}
+use Rattle.row_merge.proofs.Totals.{few_total, read_counts, read_exact, read_reached, read_rises, read_within, total, total_set}
 
 -- the lists of an input that has no row in memory, once its reader gave none
 pub none_more : (ahead rests : List (List Row)) (input : ℕ) → get_or ahead input [] ≡ [] → get_or rests input [] ≡ [] → IsRefilled input ahead rests ahead (set rests input [])
@@ -78,6 +79,16 @@ module _ {F : Type 0} (files_of : F → Option Files) (i : Inputs F) where
     rest_is : (rows : List (List Row)) → PartsHold files_of i.schema.now i.parts.now rows → get_or (rests_of old.readers.items rows) number [] ≡ rows_left r (get_or rows number [])
     rest_is rows hold = rest_at old.readers.items rows number r (omega (arith, o.within, readers_long)) (rows_long rows hold) o.r_is
 
+    -- it is the part with its number
+    own_kept : (q : Kept (Part F)) → slice_get i.parts.now number ≡ Some q → k ≡ q
+    own_kept q there = inside k q (sym (slice_get_read i.parts.now (length i.parts.now) number k refl o.within o.kept_is) ∙ there)
+      where
+        inside : (x y : Kept (Part F)) → Some x ≡ Some y → x ≡ y
+        inside x y e = cc
+
+    own_unread : IsUnreadAt old.readers.items number → IsUnread r
+    own_unread unread = unread r (slice_get_read old.readers.items (length old.readers.items) number r refl (omega (arith, o.within, readers_long)) o.r_is)
+
     -- why it could not be read
     pub own_says : (why : PartFault) → ExplainsAt (λ number t. ExplainsLeft (column_in files_of r.part number) r.left t) (column_types r.schema) r.places why → ExplainsStream files_of i old.readers.items ((get_or i.parts.now number k).name, why)
     own_says why e = record {
@@ -105,6 +116,15 @@ module _ {F : Type 0} (files_of : F → Option Files) (i : Inputs F) where
 
       pub none_later : AreLater old.readers.items (set old.readers.items number after)
       none_later = one_later old.readers.items number r after o.r_is (same_later r after same)
+
+      pub none_reads : (new : Stream F) → new.readers.items ≡ set old.readers.items number after → new.held ≡ old.held → count_left r ≡ 0 → ReadsPart i number old new
+      none_reads new readers_are held_is none = record {
+        others = λ j other. ap (λ (rs : List (Reading F)). slice_get rs j) readers_are ∙ get_set_other old.readers.items number j after other;
+        first = λ shaped unread q there.
+            subst (λ (x : Kept (Part F)). min i.schema.now.granularity x.part.loaded.manifest.rows ≤ length (ahead_at (ahead_of new.cursors.items) number)) (own_kept q there)
+            (none_first files_of i.schema.now k r own_reader (own_shape shaped) (own_unread unread) none (length (ahead_at (ahead_of new.cursors.items) number)));
+        most = omega (arith, ap (λ (h : Held). h.most_read) held_is);
+      }
 
       pub none_readers : AllZip (IsReaderOf i.schema.now) i.parts.now (set old.readers.items number after)
       none_readers =
@@ -137,6 +157,9 @@ module _ {F : Type 0} (files_of : F → Option Files) (i : Inputs F) where
       read_is : AreShaped i → old.held.read + length block.rows ≤ total (ahead_of cursors)
       read_is shaped = omega (arith, total_is, (o.stream.counts shaped).read)
 
+      all_is : AreShaped i → length i.parts.now * i.schema.now.granularity < 2 ^ 64 → old.held.read + length block.rows ≡ total (ahead_of cursors)
+      all_is shaped small = omega (arith, total_is, (o.stream.counts shaped).exact small)
+
       room : AreShaped i → total (ahead_of cursors) ≤ length i.parts.now * i.schema.now.granularity
       room shaped = subst (λ n. total (ahead_of cursors) ≤ n * i.schema.now.granularity) new_long (few_total i.schema.now.granularity (ahead_of cursors) (few_are shaped))
 
@@ -166,6 +189,19 @@ module _ {F : Type 0} (files_of : F → Option Files) (i : Inputs F) where
       pub refilled_ahead : (j : ℕ) → (j ≡ number → ⊥) → ahead_at (ahead_of cursors) j ≡ ahead_at (ahead_of old.cursors.items) j
       refilled_ahead j other = ap (λ xs. ahead_at xs j) f.ahead_is ∙ get_or-set_other ahead number j block.rows [] other
 
+      pub refilled_reads : (new : Stream F) → new.readers.items ≡ readers → new.cursors.items ≡ cursors → new.held ≡ held → ReadsPart i number old new
+      refilled_reads new readers_same cursors_same held_same = record {
+        others = λ j other. ap (λ (rs : List (Reading F)). slice_get rs j) (readers_same ∙ f.readers_are) ∙ get_set_other old.readers.items number j after other;
+        first = λ shaped unread q there.
+            subst (λ (x : Kept (Part F)). min i.schema.now.granularity x.part.loaded.manifest.rows ≤ length (ahead_at (ahead_of new.cursors.items) number)) (own_kept q there)
+            (subst (λ (own : List Row). min i.schema.now.granularity k.part.loaded.manifest.rows ≤ length own) (sym (own_ahead new cursors_same))
+            (some_first files_of i.schema.now k r own_reader (own_shape shaped) (own_unread unread) after block f.gives));
+        most = read_rises (length block.rows) old.held new.held (held_same ∙ f.held_is);
+      }
+        where
+          own_ahead : (s : Stream F) → s.cursors.items ≡ cursors → ahead_at (ahead_of s.cursors.items) number ≡ block.rows
+          own_ahead s same = ap (λ (cs : List Cursor). ahead_at (ahead_of cs) number) same ∙ ap (λ xs. ahead_at xs number) f.ahead_is ∙ get_or-set_same ahead number block.rows [] (omega (arith, o.within, ahead_long))
+
       pub refilled_stream : (new : Stream F) → new.readers.items ≡ readers → new.cursors.items ≡ cursors → new.held ≡ held → AreRanked i.places.now (ahead_of cursors) new.ranked.items → IsStream i new
       refilled_stream new readers_same cursors_same held_same ranked = record {
         inputs = o.stream.inputs;
@@ -176,6 +212,11 @@ module _ {F : Type 0} (files_of : F → Option Files) (i : Inputs F) where
         ranked = subst (λ (cs : List Cursor). AreRanked i.places.now (ahead_of cs) new.ranked.items) (sym cursors_same) ranked;
         none_made = ap (λ (h : Held). h.made) (held_same ∙ f.held_is) ∙ o.stream.none_made;
         counts = λ shaped. record {
+          exact = λ small.
+              ap (λ (h : Held). h.read) (held_same ∙ f.held_is)
+              ∙ read_exact (length block.rows) (total (ahead_of cursors)) (length i.parts.now * i.schema.now.granularity) old.held (all_is shaped small) (room shaped) small
+              ∙ sym (ap (λ (cs : List Cursor). total (ahead_of cs)) cursors_same);
+          reached = subst (λ (h : Held). h.read ≤ h.most_read) (sym (held_same ∙ f.held_is)) (read_reached (length block.rows) old.held);
           read = omega (arith, ap (λ (h : Held). h.read) (held_same ∙ f.held_is), ap (λ (cs : List Cursor). total (ahead_of cs)) cursors_same, read_counts (length block.rows) (total (ahead_of cursors)) old.held (read_is shaped));
           few = subst (λ (cs : List Cursor). All (λ (rows : List Row). length rows ≤ i.schema.now.granularity) (ahead_of cs)) (sym cursors_same) (few_are shaped);
           within = subst (IsHeldWithin (length i.parts.now) i.schema.now.granularity) (sym held_same) (refilled_most shaped);
@@ -192,14 +233,14 @@ module _ {F : Type 0} (files_of : F → Option Files) (i : Inputs F) (s : Stream
   -- the first part is named where an allocation failed
   pub first_fails : 0 < length i.parts.now → (k : Kept (Part F)) → k ≡ get_or i.parts.now 0 k → ExplainsStream files_of i s.readers.items ((get_or i.parts.now 0 k).name, NoMemory)
   first_fails some k is =
-      let r : Reading F = get_or s.readers.items 0 (record { schema = i.schema.now; part = k.part; places = []; left = [] }) in
+      let r : Reading F = get_or s.readers.items 0 (record { schema = i.schema.now; part = k.part; places = []; left = []; most = 0 }) in
       let below = reader_within 0 some in
       record {
         at = 0;
         kept = k;
         reader = r;
         kept_is = slice_get_read i.parts.now (length i.parts.now) 0 k refl some is;
-        reader_is = slice_get-get_or s.readers.items 0 (record { schema = i.schema.now; part = k.part; places = []; left = [] }) below;
+        reader_is = slice_get-get_or s.readers.items 0 (record { schema = i.schema.now; part = k.part; places = []; left = []; most = 0 }) below;
         name_is = ap (λ (q : Kept (Part F)). q.name) (sym is);
         explained = tt;
       }

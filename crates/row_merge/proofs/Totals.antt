@@ -1,5 +1,5 @@
 -- How many rows inputs have in memory.
-use Rattle.std.proofs.Common.{◌≡◌, ℕ, zero, suc, ◌+◌, ◌*◌, ◌<◌, ◌≤◌, List, [], ◌∷◌, ◌++◌, length, length-append, set, get_or, sym, ap, ◌∙◌, subst, arith, suc-mul}
+use Rattle.std.proofs.Common.{◌≡◌, ℕ, zero, suc, ◌+◌, ◌*◌, ◌<◌, ◌≤◌, List, [], ◌∷◌, ◌++◌, length, length-append, max, ◌^◌, set, get_or, refl, sym, ap, ◌∙◌, subst, arith, suc-mul}
 use Rattle.std.specs.List.{All}
 use Rattle.std.proofs.lemmas.List.Elements.{All-cons, All-head, All-tail}
 use Rattle.mt_values.specs.Values.{Row}
@@ -7,6 +7,7 @@ use Rattle.row_merge.specs.declared.held.Held.{Held}
 use Rattle.row_merge.specs.Held.{IsHeldWithin, appended, gave, no_rows, read_more, sum_of, took}
 use Rattle.row_merge.specs.Merged.{rows_of_all}
 use Rattle.row_merge.specs.Merging.{TakesFirst}
+use Rattle.row_merge.specs.Streams.{KeepsHeld}
 
 -- the rows of all inputs
 abbrev pub total : List (List Row) → ℕ
@@ -25,6 +26,13 @@ few_total size (a ∷ ahead) all =
     let own : length a ≤ size = All-head (λ (rows : List Row). length rows ≤ size) a ahead all in
     let rest = few_total size ahead (All-tail (λ (rows : List Row). length rows ≤ size) a ahead all) in
     omega (arith, own, rest, length-append a (rows_of_all ahead), suc-mul (length ahead) size)
+
+-- none has a row
+pub total_none : (ahead : List (List Row)) → All (λ (rows : List Row). rows ≡ []) ahead → total ahead ≡ 0
+total_none [] none = refl
+total_none (a ∷ ahead) none =
+    let own : a ≡ [] = All-head (λ (rows : List Row). rows ≡ []) a ahead none in
+    omega (arith, length-append a (rows_of_all ahead), ap length own, total_none ahead (All-tail (λ (rows : List Row). rows ≡ []) a ahead none))
 
 -- a row is taken
 pub total_taken : (places : List ℕ) (ahead new : List (List Row)) (input : ℕ) (row : Row) → TakesFirst places ahead input row new → total new + 1 ≡ total ahead
@@ -60,6 +68,24 @@ read_within inputs size rows now h w read few = record { read = omega (arith, w.
 
 pub read_counts : (rows now : ℕ) (h : Held) → h.read + rows ≤ now → sum_of h.read rows ≤ now
 read_counts rows now h read = omega (arith, read)
+
+-- as many as are there, where the count has room for them
+pub read_exact : (rows now room : ℕ) (h : Held) → h.read + rows ≡ now → now ≤ room → room < 2 ^ 64 → sum_of h.read rows ≡ now
+read_exact rows now room h is few small = omega (arith, is, few, small)
+
+-- the greatest count is not below
+pub read_reached : (rows : ℕ) (h : Held) → sum_of h.read rows ≤ max h.most_read (sum_of h.read rows)
+read_reached rows h = omega arith
+
+pub read_rises : (rows : ℕ) (h new : Held) → new ≡ read_more rows h → h.most_read ≤ new.most_read
+read_rises rows h new is = subst (λ (x : Held). h.most_read ≤ x.most_read) (sym is) least
+  where
+    least : h.most_read ≤ max h.most_read (sum_of h.read rows)
+    least = omega arith
+
+-- nothing is counted
+pub held_stays : (old new : Held) → new ≡ old → KeepsHeld old new
+held_stays old new is = subst (KeepsHeld old) (sym is) (record { read = refl; most = omega arith; given = omega arith; within = λ inputs size w. w })
 
 -- a row was taken
 pub took_within : (inputs size : ℕ) (h : Held) → IsHeldWithin inputs size h → IsHeldWithin inputs size (took h)

@@ -10,7 +10,7 @@ no_rows = record { read = 0; made = 0; most_read = 0; most_made = 0; most_given 
 abbrev pub sum_of : ℕ → ℕ → ℕ
 sum_of a b = min (a + b) (2 ^ 64 - 1)
 
--- what is counted once some rows were read, one was handed to the rule, the rule gave some, and some of these were appended
+-- what is counted once some rows were read, one was taken, the rule gave some, and some of these were appended
 abbrev pub read_more : ℕ → Held → Held
 read_more rows h = record h { read = sum_of h.read rows; most_read = max h.most_read (sum_of h.read rows) }
 

@@ -1,10 +1,12 @@
 pub mod Copies
 pub mod Course
+pub mod Fates
 pub mod Heads
 pub mod Held
 pub mod Merged
 pub mod MergedParts
 pub mod Merging
+pub mod Passing
 pub mod Sinks
 pub mod Streams
 pub mod Stretches

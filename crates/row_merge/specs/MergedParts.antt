@@ -1,5 +1,5 @@
 -- Parts that are merged, and the part that is sealed of them (docs/engines.md, "Merges").
-use Rattle.std.specs.Prelude.{◌≡◌, ◌⊎◌, ℕ, ◌<◌, Bool, List, [], ◌∷◌, length, slice_get, Option, Some, ⊤}
+use Rattle.std.specs.Prelude.{◌≡◌, ◌⊎◌, ℕ, ◌+◌, ◌<◌, min, Bool, List, [], ◌∷◌, length, slice_get, Option, Some, ⊤}
 use Rattle.std.specs.List.{AllZip, range_with_len}
 use Rattle.mt_base.specs.declared.name.FileId.TheVariants as file
 use Rattle.mt_base.specs.declared.partition.Partition.{Partition}
@@ -83,6 +83,13 @@ pub record ExplainsMerge {F : Type 0} (files_of : F → Option Files) (schema : 
   pub kept_is : slice_get parts at ≡ Some kept
   pub name_is : e.0 ≡ kept.name
   pub explained : ExplainsPart files_of schema kept.part e.1
+
+-- ---- first granules
+
+-- how many rows the first granules of parts have together
+abbrev pub first_rows : {F : Type 0} → ℕ → List (Kept (Part F)) → ℕ
+first_rows granularity [] = 0
+first_rows granularity (k ∷ parts) = min granularity k.part.loaded.manifest.rows + first_rows granularity parts
 
 -- ---- chosen granules
 

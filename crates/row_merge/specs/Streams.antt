@@ -1,5 +1,5 @@
 -- Parts that are read granule by granule, and what a merge of them has in memory (docs/engines.md, "Merges").
-use Rattle.std.specs.Prelude.{◌≡◌, ◌⊎◌, ℕ, ◌+◌, ◌*◌, ◌≤◌, ◌<◌, Bool, true, List, [], ◌∷◌, ◌++◌, length, replicate, slice_get, All, Option, Some, None}
+use Rattle.std.specs.Prelude.{◌≡◌, ◌⊎◌, ℕ, ◌+◌, ◌*◌, ◌≤◌, ◌<◌, ◌-◌, ◌/◌, ◌^◌, max, min, Bool, true, List, [], ◌∷◌, ◌++◌, length, replicate, slice_get, All, Option, Some, None}
 use Rattle.std.specs.List.{AllZip, slice_index_or, slice_set}
 use Rattle.mt_base.specs.declared.partition.Partition.{Partition}
 use Rattle.mt_outside.specs.declared.disk.Arm.{Ghosts as ArmGhosts}
@@ -32,7 +32,7 @@ use Rattle.row_merge.specs.Heads.{AreOfTypes, ahead_of}
 use Rattle.row_merge.specs.Held.{IsHeldWithin}
 use Rattle.row_merge.specs.Merged.{IsFoldOf, IsMergedOf, rows_of_all}
 use Rattle.row_merge.specs.MergedParts.{HasShape, column_places}
-use Rattle.row_merge.specs.Merging.{AreRanked, AreReady, IsTaken, Merging, TakesFirst, joined}
+use Rattle.row_merge.specs.Merging.{AreRanked, AreReady, IsTaken, Merging, TakesFirst, ahead_at, joined}
 
 -- ---- how parts are read
 
@@ -43,14 +43,19 @@ pub record IsPlanOf {F : Type 0} (schema : Schema) (parts : List (Kept (Part F))
   pub all : plan.chosen.items ≡ replicate (length plan.chosen.items) true
   pub enough : All (λ (k : Kept (Part F)). k.part.loaded.manifest.rows ≤ schema.granularity * length plan.chosen.items) parts
 
--- a reader of a part of which nothing was read yet
-abbrev pub reader_of : {F : Type 0} → Schema → Plan → Kept (Part F) → Reading F
-reader_of schema plan k = record { schema = schema; part = k.part; places = plan.columns.items; left = plan.chosen.items }
+-- how many bytes are read ahead at most of each of this many columns of each of this many parts: 2^24 are divided among them
+abbrev pub share : ℕ → ℕ → ℕ
+share parts columns = 2 ^ 24 / max (min (parts * columns) (2 ^ 64 - 1)) 1
+
+-- a reader of a part of which nothing was read yet, with this share of what is read ahead
+abbrev pub reader_of : {F : Type 0} → Schema → Plan → ℕ → Kept (Part F) → Reading F
+reader_of schema plan most k = record { schema = schema; part = k.part; places = plan.columns.items; left = plan.chosen.items; most = most }
 
 -- readers of these columns of the chosen granules of each part, of which nothing was read yet
-abbrev pub chosen_readers : {F : Type 0} → Schema → List ℕ → List (Kept (Part F)) → List (List Bool) → List (Reading F)
-chosen_readers schema columns (k ∷ parts) (own ∷ chosen) = record { schema = schema; part = k.part; places = columns; left = own } ∷ chosen_readers schema columns parts chosen
-chosen_readers schema columns parts chosen = []
+abbrev pub chosen_readers : {F : Type 0} → Schema → List ℕ → ℕ → List (Kept (Part F)) → List (List Bool) → List (Reading F)
+chosen_readers schema columns most (k ∷ parts) (own ∷ chosen) =
+    record { schema = schema; part = k.part; places = columns; left = own; most = most } ∷ chosen_readers schema columns most parts chosen
+chosen_readers schema columns most parts chosen = []
 
 -- no row of a part is in memory
 abbrev pub no_cursor : List ColType → Cursor
@@ -94,9 +99,11 @@ pub record AreInputs {F : Type 0} (i : Inputs F) : Type 0 where
 abbrev pub AreShaped : {F : Type 0} → Inputs F → Type 0
 AreShaped {F} i = All (λ (k : Kept (Part F)). HasShape i.schema.now k.part.loaded.schema) i.parts.now
 
--- what is counted as read is in memory, of each part a granule at most
+-- What is counted as read is in memory, of each part a granule at most. It is all that is in memory, where the count has room for a granule of each.
 pub record CountsRows {F : Type 0} (i : Inputs F) (s : Stream F) : Type 0 where
   pub read : s.held.read ≤ length (rows_of_all (ahead_of s.cursors.items))
+  pub exact : length i.parts.now * i.schema.now.granularity < 2 ^ 64 → s.held.read ≡ length (rows_of_all (ahead_of s.cursors.items))
+  pub reached : s.held.read ≤ s.held.most_read
   pub few : All (λ (rows : List Row). length rows ≤ i.schema.now.granularity) (ahead_of s.cursors.items)
   pub within : IsHeldWithin (length i.parts.now) i.schema.now.granularity s.held
 
@@ -127,6 +134,30 @@ pub record IsRefilled (input : ℕ) (ahead rests new_ahead new_rests : List (Lis
   pub ahead_is : new_ahead ≡ slice_set ahead input given
   pub rests_are : new_rests ≡ slice_set rests input rest
   pub none : given ≡ [] → rest ≡ []
+
+-- ---- the first granules
+
+-- of a part all of whose granules are chosen nothing was read
+pub record IsUnread {F : Type 0} (r : Reading F) : Type 0 where
+  pub granules : ℕ
+  pub all : r.left ≡ replicate granules true
+  pub enough : r.part.loaded.manifest.rows ≤ r.schema.granularity * granules
+
+-- the same of the part with a number
+abbrev pub IsUnreadAt : {F : Type 0} → List (Reading F) → ℕ → Type 0
+IsUnreadAt {F} readers number = (r : Reading F) → slice_get readers number ≡ Some r → IsUnread r
+
+-- the part with a number has its first granule in memory
+abbrev pub HasFirst : {F : Type 0} → Inputs F → ℕ → List (List Row) → Type 0
+HasFirst {F} i number ahead = (k : Kept (Part F)) → slice_get i.parts.now number ≡ Some k → min i.schema.now.granularity k.part.loaded.manifest.rows ≤ length (ahead_at ahead number)
+
+-- a part is read on, and no other: where nothing was read of it, its first granule is in memory then
+pub record ReadsPart {F : Type 0} (i : Inputs F) (number : ℕ) (old new : Stream F) : Type 0 where
+  pub others : (j : ℕ) → (j ≡ number → ⊥) → slice_get new.readers.items j ≡ slice_get old.readers.items j
+  pub first : AreShaped i → IsUnreadAt old.readers.items number → HasFirst i number (ahead_of new.cursors.items)
+  pub most : old.held.most_read ≤ new.held.most_read
+
+-- ---- the next row
 
 -- the next row of all is taken
 pub record TakesRow {F : Type 0} (places : List ℕ) (rows left : List (List Row)) (row : Row) (new : Stream F) : Type 0 where
@@ -222,9 +253,11 @@ pub record HasMergedTable (schema : Schema) (partition : Partition) (rows : List
   pub has : HasRows out done
   pub merged : IsMergedOf schema partition rows done
 
--- rows that the rule gave were counted, and no others
+-- no row was read or taken; no greatest count fell, and their bounds stay
 pub record KeepsHeld (old new : Held) : Type 0 where
   pub read : new.read ≡ old.read
+  pub most : old.most_read ≤ new.most_read
+  pub given : old.most_given ≤ new.most_given
   pub within : (inputs granularity : ℕ) → IsHeldWithin inputs granularity old → IsHeldWithin inputs granularity new
 
 -- What a call leaves of an arm that it reads with, and of a stage that it fills: neither count of faults is below, and one of them rises where it answers a fault.

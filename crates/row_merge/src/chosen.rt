@@ -9,7 +9,7 @@ ghost use Rattle.row_merge.specs.Heads.{ahead_of};
 ghost use Rattle.row_merge.specs.Merged.{ArePartRows};
 ghost use Rattle.row_merge.specs.MergedParts.{ExplainsWholes, PartsHold, chosen_inputs, column_places};
 ghost use Rattle.row_merge.specs.Sinks.{GetsMerged, GetsSome};
-ghost use Rattle.row_merge.specs.Streams.{AreInputs, IsStream, LeavesBoth, chosen_readers};
+ghost use Rattle.row_merge.specs.Streams.{AreInputs, IsStream, LeavesBoth, chosen_readers, share};
 
 use crate::sink::{RowSink, fold_opened};
 use crate::streams::{Inputs, Stream, open_stream, share_of};
@@ -102,7 +102,8 @@ fn open_chosen<'a, F: Dir>(
     ensures stream { IfOk result (IsStream inputs.now) }
     ensures none { IfOk result (λ s. All (λ rows. rows ≡ []) (ahead_of s.cursors.items)) }
     ensures readers { IfOk result (λ s. s.readers.items ≡ chosen_readers
-        inputs.now.schema.now columns.now inputs.now.parts.now chosen.now) }
+        inputs.now.schema.now columns.now (share (length inputs.now.parts.now) (length columns.now))
+        inputs.now.parts.now chosen.now) }
 {
     let readers = read_chosen(alloc, inputs.schema, inputs.parts, chosen, columns)?;
     open_stream(alloc, inputs, readers)
@@ -120,8 +121,8 @@ fn read_chosen<'a, F: Dir>(
 ) -> Result<Vec<PartRows<'a, F>>, NoMemory>
     requires chosen { length chosen.now ≡ length parts.now }
     requires columns { All (λ place. place < length schema.now.columns) columns.now }
-    ensures { IfOk result (λ v. v.items
-        ≡ chosen_readers schema.now columns.now parts.now chosen.now) }
+    ensures { IfOk result (λ v. v.items ≡ chosen_readers schema.now columns.now
+        (share (length parts.now) (length columns.now)) parts.now chosen.now) }
 {
     let most = share_of(parts.len(), columns.len());
     let mut readers = Vec::new(alloc);

@@ -54,6 +54,7 @@ pub(crate) fn copy_stream<R: Arm>(
     ensures whole { OnOk result (IsWhole out.new) }
     ensures table { OnOk result (out.new.grown.schema ≡ out.old.grown.schema) }
     ensures told { OnOk result (is_some out.new.stage.files ≡ is_some out.old.stage.files) }
+    ensures rises { OnOk result (stream.old.held.most_read ≤ stream.new.held.most_read) }
     ensures most { IsHeldWithin (length inputs.now.parts.now) inputs.now.schema.now.granularity
         stream.new.held }
 
@@ -104,6 +105,7 @@ fn copy_next<R: Arm>(
     ensures whole { OnOk result (IsWhole out.new) }
     ensures table { OnOk result (out.new.grown.schema ≡ out.old.grown.schema) }
     ensures told { OnOk result (is_some out.new.stage.files ≡ is_some out.old.stage.files) }
+    ensures rises { OnOk result (stream.old.held.most_read ≤ stream.new.held.most_read) }
     ensures most { IsHeldWithin (length inputs.now.parts.now) inputs.now.schema.now.granularity
         stream.new.held }
 
@@ -145,6 +147,7 @@ fn take_some<F: Dir>(
     ensures takes { IfOk result (MayTakeSome inputs.now stream.old stream.new) }
     ensures readers { stream.new.readers.items ≡ stream.old.readers.items }
     ensures stream { OnOk result (IsStream inputs.now stream.new) }
+    ensures rises { OnOk result (stream.old.held.most_read ≤ stream.new.held.most_read) }
     ensures most { AreShaped inputs.now → IsHeldWithin (length inputs.now.parts.now)
         inputs.now.schema.now.granularity stream.new.held }
 {
@@ -177,6 +180,7 @@ fn read_on<R: Arm>(
         (rests_of stream.old.readers.items rows) (ahead_of stream.new.cursors.items)
         (rests_of stream.new.readers.items rows)) }
     ensures count { OnOk result (rows_to_come stream.new ≡ rows_to_come stream.old) }
+    ensures rises { OnOk result (stream.old.held.most_read ≤ stream.new.held.most_read) }
     ensures most { AreShaped inputs.now → IsHeldWithin (length inputs.now.parts.now)
         inputs.now.schema.now.granularity stream.new.held }
 
@@ -201,7 +205,7 @@ fn read_on<R: Arm>(
 ///
 /// `Fault` only where the count of the part's stage rose, `NoMemory` where an allocation failed. After an error the part can only be given
 /// up.
-fn copy_rows<R: Arm>(
+pub(crate) fn copy_rows<R: Arm>(
     order: &mut Vec<u32>,
     block: &Block,
     from: usize,

@@ -31,7 +31,8 @@ pub(crate) fn take_in<Q: RowRule>(
     current: Option<Current<Q::State>>,
     row: Row,
 ) -> Result<(Vec<Row>, Current<Q::State>), NoMemory>
-    ensures takes { IfOk result (λ r. (pending : List Row) → HoldsKey (Q.holds rule.now) current pending
+    ensures takes { IfOk result (λ r. (pending : List Row)
+        → HoldsKey (Q.holds rule.now) current pending
         → All (Q.takes rule.now) pending → Q.takes rule.now row
         → All (HasPlaces places.now) pending → HasPlaces places.now row
         → TakesIn places.now (Q.run rule.now) (Q.holds rule.now) pending row r.0.items r.1) }

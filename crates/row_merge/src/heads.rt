@@ -6,14 +6,14 @@ ghost use Rattle.std.specs.Prelude.{◌≡◌, ◌+◌, ◌≤◌, ◌<◌, ◌�
 ghost use Rattle.std.specs.List.{slice_index_or, slice_set};
 ghost use Rattle.std.specs.Ordering.{is_lt};
 ghost use Rattle.std.specs.declared.cmp.Ordering.TheVariants.{Less};
-ghost use Rattle.mt_values.specs.Order.{key_cmp};
+ghost use Rattle.mt_values.specs.Order.{HasPlaces, key_cmp};
 ghost use Rattle.mt_values.specs.Values.{types_of};
 ghost use Rattle.mt_values.specs.declared.value.ColType.{ColType};
 ghost use Rattle.row_merge.specs.Heads.{AreComparable, AreOfTypes, AreTypedAs, IsNoneAhead, IsTypedAs, ahead_of};
 ghost use Rattle.row_merge.specs.Merging.{AreOthersRanked, AreRanked, Falls, TakesFirst, ahead_at, lead_cmp};
 
 use mt_base::NoMemory;
-use mt_values::{Block, Row, cmp_cells};
+use mt_values::{Block, Cell, Row, cmp_cells};
 use std::alloc::Global;
 use std::cmp::Ordering;
 
@@ -191,6 +191,26 @@ pub(crate) fn cmp_rows_of(
         prove_eq!(column.len(), rows);
         prove_eq!(other.len(), others);
         let found = cmp_cells(column.at(a), other.at(b));
+        if found.is_ne() {
+            return found;
+        }
+    }
+    Ordering::Equal
+}
+
+/// The order of a row and a row of a block by the columns at these places.
+pub(crate) fn cmp_row_with(places: &[u32], row: &Row, block: &Block, at: usize) -> Ordering
+    requires there { at < length block.now.rows }
+    requires own { HasPlaces places.now row.now }
+    requires other { All (λ place. place < length block.now.types) places.now }
+    ensures { result ≡ key_cmp places.now row.now (slice_index_or block.now.rows at []) }
+{
+    let rows = block.len();
+    for place in places {
+        let value = row.at(*place as usize);
+        let column = block.column(*place as usize);
+        prove_eq!(column.len(), rows);
+        let found = cmp_cells(Cell::of(value), column.at(at));
         if found.is_ne() {
             return found;
         }

@@ -2,7 +2,7 @@
 ghost use Rattle.std.specs.Prelude.{◌≡◌};
 ghost use Rattle.row_merge.specs.Held.{appended, gave, no_rows, read_more, took, took_some};
 
-/// Counts of rows in memory: those that were read and not yet handed to the rule or copied, and those that it gave and that are not yet appended.
+/// Counts of rows in memory: those that were read and not yet taken, and those that it gave and that are not yet appended.
 #[derive(Debug, Clone, Copy, PartialEq, Eq)]
 pub struct Held {
     pub read: u64,
@@ -36,7 +36,7 @@ impl Held {
         self.most_read = self.most_read.max(self.read);
     }
 
-    /// A row was handed to the rule.
+    /// A row was taken: the rule gets it, or it was copied or left out.
     pub(crate) fn took(&mut self)
         ensures { self.new ≡ took self.old }
     {

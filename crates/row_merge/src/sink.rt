@@ -1,6 +1,6 @@
 // Where the rows go that the rule leaves of a key, once the key ends, and the loop over a stream that gives them. The loop of `streamed` is
-// the same over a part that is written: that is no sink, since a trait's method can't call what is generic over an arm.
-ghost use Rattle.std.specs.Prelude.{◌≡◌, ◌<◌, ◌++◌, [], true, ℕ, All, IfErr, IsErrAnd, List, OnOk, length};
+// over a part that is written, which may take rows as columns: that is no sink, since a trait's method can't call what is generic over an arm.
+ghost use Rattle.std.specs.Prelude.{◌≡◌, ◌≤◌, ◌<◌, ◌++◌, [], true, ℕ, All, IfErr, IsErrAnd, List, OnOk, length};
 ghost use Rattle.mt_base.specs.declared.partition.Partition.{Partition};
 ghost use Rattle.mt_outside.specs.DiskCauses.{HasDiskCause};
 ghost use Rattle.mt_values.specs.Grid.{AreRowsOf};
@@ -280,6 +280,7 @@ fn give<T: RowSink>(rows: &[Row], held: &mut Held, out: &mut T) -> Result<(), Di
     // How many rows are in memory then.
     ensures held { KeepsHeld held.old held.new }
     ensures made { OnOk result (held.new.made ≡ 0) }
+    ensures given { OnOk result (length rows.now ≤ held.new.most_given) }
 
     ensures cause { HasDiskCause (T.failed out.old) (T.failed out.new) result }
 {

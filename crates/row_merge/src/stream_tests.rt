@@ -1,5 +1,5 @@
 // What no clause says: that parts are merged granule by granule where memory is ample, and to the bytes that their rows in memory make, for
-// granules of one row, of two and of three.
+// granules of one row to six.
 ghost use Rattle.std.specs.Prelude.{◌≡◌, ◌∷◌, ◌<◌, [], All, IfOk};
 ghost use Rattle.mt_values.specs.Grid.{AreRowsOf};
 ghost use Rattle.mt_values.specs.Schemas.{column_types};
@@ -315,7 +315,7 @@ fn are_merged(alloc: Global, engine: Engine, granularity: u32) -> Result<bool, D
 #[test]
 fn parts_are_merged_to_the_bytes_of_their_rows(rt: HostRuntime) -> Result<(), Fail> {
     let alloc = rt.alloc();
-    for granularity in 1..4 {
+    for granularity in 1..7 {
         assert!(rt; are_merged(alloc, Engine::Plain, granularity)?);
         assert!(rt; are_merged(alloc, Engine::Replacing(None), granularity)?);
         assert!(rt; are_merged(alloc, Engine::Replacing(Some(1)), granularity)?);

@@ -1,6 +1,6 @@
 // Parts merged granule by granule (docs/engines.md, "Merges"): what the rule leaves of a key is appended to the part that is written once
 // the key ends.
-ghost use Rattle.std.specs.Prelude.{◌≡◌, ◌<◌, ◌++◌, [], true, All, IfErr, IfOk, IsErrAnd, List, OnOk, length, is_some};
+ghost use Rattle.std.specs.Prelude.{◌≡◌, ◌*◌, ◌≤◌, ◌<◌, ◌^◌, ◌++◌, [], true, ℕ, All, IfErr, IfOk, IsErrAnd, List, OnOk, length, is_some};
 ghost use Rattle.mt_base.specs.declared.partition.Partition.{Partition};
 ghost use Rattle.mt_outside.specs.DiskCauses.{HasDiskCause};
 ghost use Rattle.mt_outside.specs.Leaves.{LeavesArm};
@@ -17,14 +17,15 @@ ghost use Rattle.part_reader.specs.primary_marks.Keys.{HasMarks};
 ghost use Rattle.row_merge.specs.Heads.{ahead_of};
 ghost use Rattle.row_merge.specs.Held.{IsHeldWithin};
 ghost use Rattle.row_merge.specs.Merged.{ArePartRows};
-ghost use Rattle.row_merge.specs.MergedParts.{ExplainsMerge, IsSealedMerge, IsSealedPart, PartsHold};
+ghost use Rattle.row_merge.specs.MergedParts.{ExplainsMerge, IsSealedMerge, IsSealedPart, PartsHold, first_rows};
 ghost use Rattle.row_merge.specs.Merging.{IsTaken};
-ghost use Rattle.row_merge.specs.Streams.{AreInputs, AreShaped, Ends, HandsOver, HasMerged, HasMergedTable, HasPending, IsLeft, IsPending, IsStream, KeepsHeld, LeavesBoth, rests_of};
+ghost use Rattle.row_merge.specs.Streams.{AreInputs, AreShaped, Ends, HandsOver, HasMerged, HasMergedTable, HasPending, IsLeft, IsPending, IsStream, IsUnreadAt, KeepsHeld, LeavesBoth, rests_of};
 
 use crate::choosing::functions_of;
 use crate::copied::copy_stream;
 use crate::course::{Current, end_key, take_in};
 use crate::held::Held;
+use crate::passing::append_on;
 use crate::streams::{Inputs, Stream, check_shapes, fill_all, next_row, open_whole, plan_of};
 use collapse_rules::{CollapsingRule, VersionedRule};
 use mt_base::{NoMemory, Seq, Twin};
@@ -105,6 +106,9 @@ pub fn merge_streamed<R: Arm>(
 
     // How many rows were in memory, also where it failed.
     ensures held { IsHeldWithin (length parts.now) schema.now.granularity held.new }
+    // The first granules of all parts were in memory together.
+    ensures reached { length parts.now * schema.now.granularity < 2 ^ 64
+        → OnOk result (first_rows schema.now.granularity parts.now ≤ held.new.most_read) }
 
     // What a fault says.
     ensures sound { (rows : List (List Row)) → PartsHold R.Dir.files schema.now parts.now rows
@@ -151,12 +155,15 @@ fn merge_into<R: Arm>(
 
     // What is written.
     ensures merged { (partition : Partition) (rows : List (List Row))
-        → PartsHold R.Dir.files schema.now parts.now rows → All (ArePartRows schema.now partition) rows
+        → PartsHold R.Dir.files schema.now parts.now rows
+        → All (ArePartRows schema.now partition) rows
         → OnOk result (HasMergedTable schema.now partition rows out.new) }
     ensures whole { OnOk result (IsWhole out.new) }
     ensures table { OnOk result (out.new.grown.schema ≡ schema.now) }
     ensures told { OnOk result (is_some out.new.stage.files ≡ is_some out.old.stage.files) }
     ensures held { IsHeldWithin (length parts.now) schema.now.granularity held.new }
+    ensures reached { length parts.now * schema.now.granularity < 2 ^ 64
+        → OnOk result (first_rows schema.now.granularity parts.now ≤ held.new.most_read) }
 
     // What a fault says.
     ensures sound { (rows : List (List Row)) → PartsHold R.Dir.files schema.now parts.now rows
@@ -213,6 +220,10 @@ fn merge_opened<R: Arm>(
     ensures told { OnOk result (is_some out.new.stage.files ≡ is_some out.old.stage.files) }
     ensures most { IsHeldWithin (length inputs.now.parts.now) inputs.now.schema.now.granularity
         stream.new.held }
+    ensures reached { length inputs.now.parts.now * inputs.now.schema.now.granularity < 2 ^ 64
+        → ((j : ℕ) → IsUnreadAt stream.old.readers.items j)
+        → OnOk result (first_rows inputs.now.schema.now.granularity inputs.now.parts.now
+        ≤ stream.new.held.most_read) }
 
     // What a fault says.
     ensures sound { (rows : List (List Row))
@@ -258,6 +269,7 @@ fn merge_by_engine<R: Arm>(
     ensures told { OnOk result (is_some out.new.stage.files ≡ is_some out.old.stage.files) }
     ensures most { IsHeldWithin (length inputs.now.parts.now) inputs.now.schema.now.granularity
         stream.new.held }
+    ensures rises { OnOk result (stream.old.held.most_read ≤ stream.new.held.most_read) }
 
     // What a fault says.
     ensures sound { (rows : List (List Row))
@@ -364,6 +376,7 @@ fn merge_stream<R: Arm, Q: RowRule>(
     ensures told { OnOk result (is_some out.new.stage.files ≡ is_some out.old.stage.files) }
     ensures most { IsHeldWithin (length inputs.now.parts.now) inputs.now.schema.now.granularity
         stream.new.held }
+    ensures rises { OnOk result (stream.old.held.most_read ≤ stream.new.held.most_read) }
 
     // What a fault says.
     ensures sound { (rows : List (List Row))
@@ -377,12 +390,13 @@ fn merge_stream<R: Arm, Q: RowRule>(
         (IsErrAnd result (λ e. e.1 ≡ PartFault.Fault)) }
 {
     let mut current = None;
+    let mut order = Vec::new(alloc);
     'rows: while let Some(row) = next_row(alloc, arm, inputs, stream)? {
         let Ok((kept, new)) = hand_over(alloc, inputs, rule, current, row) else {
             return Err((inputs.parts[0].name, PartFault::NoMemory));
         };
-        match append(&kept, &mut stream.held, out) {
-            Ok(()) => current = new,
+        match append_on(alloc, inputs, stream, rule, &kept, new, &mut order, out) {
+            Ok(now) => current = now,
             Err(error) => return Err((inputs.parts[0].name, PartFault::from(error))),
         }
     }
@@ -436,7 +450,7 @@ pub(crate) fn hand_over<F, Q: RowRule>(
 ///
 /// `Fault` only where the count of the part's stage rose, `NoMemory` where an allocation failed. After an error the part can only be given
 /// up.
-fn end_merge<R: Arm, Q: RowRule>(
+pub(crate) fn end_merge<R: Arm, Q: RowRule>(
     alloc: Global,
     rule: &Q,
     current: Option<Current<Q::State>>,
@@ -456,6 +470,7 @@ fn end_merge<R: Arm, Q: RowRule>(
     ensures table { OnOk result (out.new.grown.schema ≡ out.old.grown.schema) }
     ensures told { OnOk result (is_some out.new.stage.files ≡ is_some out.old.stage.files) }
     ensures held { KeepsHeld held.old held.new }
+    ensures made { OnOk result (held.new.made ≡ 0) }
     ensures cause { HasDiskCause out.old.stage.failed out.new.stage.failed result }
 {
     let kept = end_key(alloc, rule, current)?;
@@ -466,7 +481,11 @@ fn end_merge<R: Arm, Q: RowRule>(
 ///
 /// `Fault` only where the count of the part's stage rose, `NoMemory` where an allocation failed. After an error the part can only be given
 /// up.
-fn append<R: Arm>(rows: &[Row], held: &mut Held, out: &mut PartOut<R>) -> Result<(), DiskError>
+pub(crate) fn append<R: Arm>(
+    rows: &[Row],
+    held: &mut Held,
+    out: &mut PartOut<R>,
+) -> Result<(), DiskError>
     requires whole { IsWhole out.old }
     requires typed { AreRowsOf (column_types out.old.grown.schema) rows.now }
     requires made { held.old.made ≡ 0 }
@@ -481,6 +500,7 @@ fn append<R: Arm>(rows: &[Row], held: &mut Held, out: &mut PartOut<R>) -> Result
     // How many rows are in memory then.
     ensures held { KeepsHeld held.old held.new }
     ensures made { OnOk result (held.new.made ≡ 0) }
+    ensures given { OnOk result (length rows.now ≤ held.new.most_given) }
 
     ensures cause { HasDiskCause out.old.stage.failed out.new.stage.failed result }
 {

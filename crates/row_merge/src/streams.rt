@@ -1,7 +1,7 @@
 // Parts that are read granule by granule, with the rows of each that were read and not yet taken.
 //
 // Of each part one granule at most is in memory, and bytes of its columns that are read ahead, a share of what all parts have.
-ghost use Rattle.std.specs.Prelude.{◌≡◌, ℕ, ◌≤◌, ◌<◌, ◌^◌, ◌↔◌, [], true, All, IfErr, IfOk, IfSome, IsErrAnd, IsSorted, List, OnOk, length, map, replicate};
+ghost use Rattle.std.specs.Prelude.{◌≡◌, ℕ, ◌*◌, ◌≤◌, ◌<◌, ◌^◌, ◌↔◌, [], true, All, IfErr, IfOk, IfSome, IsErrAnd, IsSorted, List, OnOk, length, map, replicate};
 ghost use Rattle.std.specs.List.{AllZip};
 ghost use Rattle.mt_outside.specs.Leaves.{LeavesArm};
 ghost use Rattle.mt_values.specs.Order.{key_cmp};
@@ -10,9 +10,10 @@ ghost use Rattle.mt_values.specs.Values.{Row, types_of};
 ghost use Rattle.part_reader.specs.Faults.{IsNoDamage};
 ghost use Rattle.row_merge.specs.Heads.{ahead_of};
 ghost use Rattle.row_merge.specs.Held.{IsHeldWithin};
-ghost use Rattle.row_merge.specs.MergedParts.{ExplainsMerge, HasShape, PartsHold, other_table};
+ghost use Rattle.row_merge.specs.Merged.{rows_of_all};
+ghost use Rattle.row_merge.specs.MergedParts.{ExplainsMerge, HasShape, PartsHold, first_rows, other_table};
 ghost use Rattle.row_merge.specs.Merging.{ahead_at};
-ghost use Rattle.row_merge.specs.Streams.{AreInputs, AreLater, AreShaped, ExplainsStream, GivesRow, IsLeft, IsPlanOf, IsReaderOf, IsRefilled, IsStream, MayTake, no_cursor, reader_of, rests_of, rows_to_come};
+ghost use Rattle.row_merge.specs.Streams.{AreInputs, AreLater, AreShaped, ExplainsStream, GivesRow, IsLeft, IsPlanOf, IsReaderOf, IsRefilled, IsStream, IsUnreadAt, MayTake, ReadsPart, no_cursor, reader_of, rests_of, rows_to_come, share};
 
 use crate::heads::{Cursor, fill, has_row, take_row};
 use crate::held::Held;
@@ -155,7 +156,8 @@ pub(crate) fn plan_of<F>(
 
 /// How many bytes are read ahead at most of each of this many columns of each of this many parts.
 pub(crate) fn share_of(parts: usize, columns: usize) -> u64
-    ensures { result ≤ 2 ^ 24 }
+    ensures exact { result ≡ share parts columns }
+    ensures within { result * (parts * columns) ≤ 2 ^ 24 }
 {
     let shares = (parts as u64).saturating_mul(columns as u64);
     MOST_AHEAD / shares.max(1)
@@ -171,7 +173,8 @@ fn open_readers<'a, F: Dir>(
     plan: &'a Plan,
 ) -> Result<Vec<PartRows<'a, F>>, NoMemory>
     requires places { All (λ place. place < length schema.now.columns) plan.now.columns.items }
-    ensures { IfOk result (λ v. v.items ≡ map (reader_of schema.now plan.now) parts.now) }
+    ensures { IfOk result (λ v. v.items ≡ map (reader_of schema.now plan.now
+        (share (length parts.now) (length plan.now.columns.items))) parts.now) }
 {
     let most = share_of(parts.len(), plan.columns.len());
     let mut readers = Vec::new(alloc);
@@ -206,7 +209,8 @@ pub(crate) fn open_stream<'a, F: Dir>(
     inputs: &Inputs<'a, F>,
     readers: Vec<PartRows<'a, F>>,
 ) -> Result<Stream<'a, F>, NoMemory>
-    requires readers { AllZip (IsReaderOf inputs.now.schema.now) inputs.now.parts.now readers.items }
+    requires readers { AllZip (IsReaderOf inputs.now.schema.now) inputs.now.parts.now
+        readers.items }
     requires inputs { AreInputs inputs.now }
     ensures stream { IfOk result (IsStream inputs.now) }
     ensures none { IfOk result (λ s. All (λ rows. rows ≡ []) (ahead_of s.cursors.items)) }
@@ -237,6 +241,7 @@ pub(crate) fn open_whole<'a, F: Dir>(
     ensures rows { IfOk result (λ s. (rows : List (List Row))
         → PartsHold F.files inputs.now.schema.now inputs.now.parts.now rows
         → rests_of s.readers.items rows ≡ rows) }
+    ensures unread { IfOk result (λ s. (j : ℕ) → IsUnreadAt s.readers.items j) }
 {
     let readers = open_readers(alloc, inputs.schema, inputs.parts, plan)?;
     open_stream(alloc, inputs, readers)
@@ -270,6 +275,7 @@ pub(crate) fn refill<R: Arm>(
         → ahead_at (ahead_of stream.new.cursors.items) j
         ≡ ahead_at (ahead_of stream.old.cursors.items) j) }
     ensures count { OnOk result (rows_to_come stream.new ≡ rows_to_come stream.old) }
+    ensures reads { OnOk result (ReadsPart inputs.now number stream.old stream.new) }
     ensures most { AreShaped inputs.now → IsHeldWithin (length inputs.now.parts.now)
         inputs.now.schema.now.granularity stream.new.held }
 
@@ -322,6 +328,9 @@ pub(crate) fn fill_all<R: Arm>(
     ensures rows { (rows : List (List Row))
         → PartsHold R.Dir.files inputs.now.schema.now inputs.now.parts.now rows
         → OnOk result (IsLeft stream.new rows (rests_of stream.old.readers.items rows)) }
+    ensures first { AreShaped inputs.now → ((j : ℕ) → IsUnreadAt stream.old.readers.items j)
+        → OnOk result (first_rows inputs.now.schema.now.granularity inputs.now.parts.now
+        ≤ length (rows_of_all (ahead_of stream.new.cursors.items))) }
     ensures most { AreShaped inputs.now → IsHeldWithin (length inputs.now.parts.now)
         inputs.now.schema.now.granularity stream.new.held }
 
@@ -366,6 +375,7 @@ pub(crate) fn next_row<R: Arm>(
         (λ _. rows_to_come stream.new < rows_to_come stream.old)) }
     ensures stream { OnOk result (IsStream inputs.now stream.new) }
     ensures goes_on { OnOk result (AreLater stream.old.readers.items stream.new.readers.items) }
+    ensures rises { OnOk result (stream.old.held.most_read ≤ stream.new.held.most_read) }
     ensures most { AreShaped inputs.now → IsHeldWithin (length inputs.now.parts.now)
         inputs.now.schema.now.granularity stream.new.held }
 
@@ -404,6 +414,7 @@ fn take_next<F: Dir>(
     ensures takes { IfOk result (MayTake inputs.now stream.old stream.new) }
     ensures readers { stream.new.readers.items ≡ stream.old.readers.items }
     ensures stream { OnOk result (IsStream inputs.now stream.new) }
+    ensures rises { OnOk result (stream.old.held.most_read ≤ stream.new.held.most_read) }
     ensures most { AreShaped inputs.now → IsHeldWithin (length inputs.now.parts.now)
         inputs.now.schema.now.granularity stream.new.held }
 {

@@ -5,10 +5,11 @@
 ghost use Rattle.std.specs.Prelude.{◌≡◌, ◌-◌, ◌+◌, ◌≤◌, ◌<◌, ◌^◌, ◌++◌, ◌∷◌, [], All, IfOk, MatchOption, OnOk, length};
 ghost use Rattle.std.specs.List.{slice_index_or};
 ghost use Rattle.std.specs.Ordering.{is_lt, ordering_then};
+ghost use Rattle.mt_values.specs.Grid.{AreRowsOf};
 ghost use Rattle.mt_values.specs.Order.{key_cmp};
 ghost use Rattle.row_merge.specs.Heads.{AreComparable, AreTypedAs, IsNoneAhead, ahead_of};
 ghost use Rattle.row_merge.specs.Merging.{AreRanked, RowLeads, ahead_at};
-ghost use Rattle.row_merge.specs.Stretches.{LeadsAt, TakesStretch};
+ghost use Rattle.row_merge.specs.Stretches.{HasAnother, LeadsAt, TakesPlace, TakesStretch};
 
 use crate::heads::{Cursor, cmp_rows_of, rank};
 use mt_base::NoMemory;
@@ -29,6 +30,13 @@ impl Stretch {
     {
         self.to.saturating_sub(self.from)
     }
+}
+
+/// A row of the block of an input.
+#[derive(Debug, Clone, Copy)]
+pub(crate) struct Place {
+    pub(crate) input: usize,
+    pub(crate) at: usize,
 }
 
 /// Takes the next rows of all that one input has in memory, side by side: the first of the last of the ranked inputs, and those after it
@@ -65,14 +73,43 @@ pub(crate) fn take_stretch(
     }))
 }
 
+/// Takes the next row of all, which stays in its block; its input has another row in memory after it.
+///
+/// `NoMemory` where an allocation failed; then the cursors can only be given up.
+pub(crate) fn take_place(
+    places: &[u32],
+    cursors: &mut [Cursor],
+    ranked: &mut Vec<usize>,
+) -> Result<Place, NoMemory>
+    requires comparable { AreComparable places.now cursors.old }
+    requires ranked { AreRanked places.now (ahead_of cursors.old) ranked.old.items }
+    requires another { HasAnother (ahead_of cursors.old) ranked.old.items }
+
+    // The row, and what is left.
+    ensures takes { IfOk result (TakesPlace places.now cursors.old cursors.new) }
+
+    // The inputs are ranked again.
+    ensures ranked { OnOk result (AreRanked places.now (ahead_of cursors.new) ranked.new.items) }
+    ensures types { OnOk result (AreTypedAs cursors.old cursors.new) }
+    ensures count { length cursors.new ≡ length cursors.old }
+{
+    let Some(input) = ranked.pop() else {
+        unreachable!();
+    };
+    let at = go_on(&mut cursors[input], 1);
+    rank(places, cursors, ranked, input)?;
+    Ok(Place { input, at })
+}
+
 /// Takes this many rows of a cursor that has them, and tells the place of the first.
 fn go_on(cursor: &mut Cursor, count: usize) -> usize
     requires { cursor.old.at + count ≤ length cursor.old.block.rows }
     ensures from { result ≡ cursor.old.at }
     ensures moved { cursor.new ≡ record cursor.old { at = cursor.old.at + count } }
     ensures few { result + count < 2 ^ 32 }
+    ensures typed { AreRowsOf cursor.old.block.types cursor.old.block.rows }
 {
-    // Reading the length shows that 32 bits count the rows.
+    // Reading the length shows that the rows keep to the types of the columns, and that 32 bits count them.
     let _rows = cursor.block.len();
     let from = cursor.at;
     cursor.at += count;

@@ -1,4 +1,4 @@
-use Rattle.std.proofs.Common.{◌∙◌, [], All, List, ap, arith, get_or, refl, subst, sym}
+use Rattle.std.proofs.Common.{◌∙◌, [], All, List, ap, arith, get_or, length, refl, subst, sym}
 use Rattle.std.proofs.lemmas.Option.{slice_get-get_or}
 use Rattle.std.proofs.lemmas.Result.{on_ok_weaker}
 use Rattle.mt_outside.proofs.LeftArms.{arm_same}
@@ -7,7 +7,7 @@ use Rattle.part_history.proofs.MtModelOwnColumns.{sorting_own}
 use Rattle.part_reader.specs.Readings.{Reading}
 use Rattle.row_merge.specs.Merged.{ArePartRows}
 use Rattle.row_merge.specs.Sinks.{GetsMerged}
-use Rattle.row_merge.specs.Streams.{rests_of}
+use Rattle.row_merge.specs.Streams.{rests_of, share}
 use Rattle.row_merge.proofs.ChosenGranules.{chosen_rests, chosen_told}
 use Rattle.row_merge.proofs.Opening.{own_inputs}
 use Rattle.row_merge.proofs.Written.{arm_alone, both_as, no_fault}
@@ -65,12 +65,12 @@ returns-clause-merged g c = λ partition rows holds parts.
     let all = c.as_slice-all.result.now in
     let are = c.as_slice-all.ensures.value ∙ c.in-Ok.ensures.columns in
     let rests = ap (λ (rs : List (Reading _)). rests_of rs rows) c.in-Ok-open_chosen.ensures.readers
-    ∙ chosen_rests g.R.Dir.Dir.files schema all c.args.parts.now c.args.chosen.now rows are holds c.requires.chosen in
+    ∙ chosen_rests g.R.Dir.Dir.files schema all (share (length c.args.parts.now) (length all)) c.args.parts.now c.args.chosen.now rows are holds c.requires.chosen in
     on_ok_weaker c.fold_opened.result (λ m. subst (λ (rs : List (List Row)). GetsMerged g.T.RowSink.gets schema partition rs c.args.out.now c.fold_opened.new.out) rests m)
     (c.fold_opened.ensures.merged partition rows holds (subst (All (ArePartRows schema partition)) (sym rests) parts))
 
 pub returns-clause-damaged : goal.returns-clause-damaged
 returns-clause-damaged g c =
     let all = c.as_slice-all.result.now in
-    chosen_told g.R.Dir.Dir.files c.fold_opened.result _ c.in-Ok-open_chosen.stream.readers.items c.fold_opened.ensures.damaged all c.args.chosen.now c.in-Ok-open_chosen.ensures.readers
+    chosen_told g.R.Dir.Dir.files c.fold_opened.result _ c.in-Ok-open_chosen.stream.readers.items c.fold_opened.ensures.damaged all (share (length c.args.parts.now) (length all)) c.args.chosen.now c.in-Ok-open_chosen.ensures.readers
     (c.as_slice-all.ensures.value ∙ c.in-Ok.ensures.columns) c.requires.chosen

@@ -1,4 +1,4 @@
-use Rattle.std.proofs.Common.{◌≡◌, ◌≤◌, ◌++◌, ap, false, length, subst, sym, true}
+use Rattle.std.proofs.Common.{◌≡◌, ◌≤◌, ◌++◌, ap, arith, false, length, subst, sym, true}
 use Rattle.part_reader.specs.part_writer.Growing.{HasRows}
 use Rattle.part_reader.proofs.Gaining.{handed_on}
 use Rattle.row_merge.specs.declared.heads.Cursor.{Cursor}
@@ -28,6 +28,9 @@ returns-in_default-found-clause-copies g c = λ rows holds on.
     let old = c.args.stream.now in
     let none = subst (MayTakeSome i old c.take_some.new.stream) c.in_default-found.is c.in-Ok.ensures.takes in
     record { on = λ e. absurd (clash e); ended = λ _. copied_all i.places.now rows old c.args.out.now on none }
+
+pub returns-in_default-found-clause-rises : goal.returns-in_default-found-clause-rises
+returns-in_default-found-clause-rises g c = c.in-Ok.ensures.rises
 
 -- rows are copied
 pub copy_rows-requires-clause-within : goal.copy_rows-requires-clause-within
@@ -69,6 +72,17 @@ returns-in_ok-read_on-in-Ok-copy_rows-clause-copies g c = λ rows holds on.
       on = λ _. copied_on i rows old mid c.read_on.new.stream own t c.take_some.ensures.readers (c.in_ok-read_on-in-Ok-copy_rows.ensures.rows rows holds) c.args.out.now c.copy_rows.new.out on has;
       ended = λ e. absurd (clash_too e);
     }
+
+pub returns-in_ok-read_on-in-Ok-copy_rows-clause-rises : goal.returns-in_ok-read_on-in-Ok-copy_rows-clause-rises
+returns-in_ok-read_on-in-Ok-copy_rows-clause-rises g c = omega (arith, c.in-Ok.ensures.rises, c.in_ok-read_on-in-Ok-copy_rows.ensures.rises)
+
+pub returns-in_ok-read_on-in-Ok-copy_rows-clause-most : goal.returns-in_ok-read_on-in-Ok-copy_rows-clause-most
+returns-in_ok-read_on-in-Ok-copy_rows-clause-most g c = c.in_ok-read_on-in-Ok-copy_rows.ensures.most c.requires.shaped
+
+pub returns-in_ok-read_on-in-Ok-copy_rows-clause-leaves : goal.returns-in_ok-read_on-in-Ok-copy_rows-clause-leaves
+returns-in_ok-read_on-in-Ok-copy_rows-clause-leaves g c =
+    both_then (stage_alone c.args.arm.now c.args.out.now.stage.failed c.copy_rows.new.out.stage.failed ⊥ c.copy_rows.ensures.cause.later (λ f. absurd f) (λ none. c.in-Ok-copy_rows.ensures.cause.ok)) (λ none. none)
+    (arm_alone c.copy_rows.new.out.stage.failed c.in_ok-read_on-in-Ok-copy_rows.ensures.arm)
 
 -- the rows could not be written
 pub returns-in-Err-clause-damaged : goal.returns-in-Err-clause-damaged

@@ -1,4 +1,4 @@
-use Rattle.std.proofs.Common.{[], ◌≡◌, ◌∙◌, length, refl, subst, sym}
+use Rattle.std.proofs.Common.{[], ◌≡◌, ◌∙◌, arith, length, refl, subst, sym}
 use Rattle.std.specs.List.{range_with_len}
 use Rattle.mt_outside.proofs.LeftArms.{arm_same}
 use Rattle.part_reader.specs.Faults.{IsNoDamage}
@@ -18,6 +18,7 @@ rows-init g c =
       table = refl;
       told = refl;
       copying = λ partition rows holds left parts. copying_begins i rows partition c.args.stream.now c.args.out.now c.requires.stream.inputs.places_are left parts c.requires.empty;
+      rises = omega arith;
       leaves = arm_alone c.args.out.now.stage.failed (arm_same c.args.arm.now);
     }
 
@@ -47,6 +48,7 @@ rows-preserved g c =
       table = now.table ∙ before.table;
       told = now.told ∙ before.told;
       copying = λ partition rows holds left parts. (now.copies rows holds (before.copying partition rows holds left parts)).on c.if-branch.true;
+      rises = omega (arith, before.rises, now.rises);
       leaves = both_then before.leaves (λ none. none) now.leaves;
     }
 
@@ -57,3 +59,6 @@ returns-clause-merged g c = λ partition rows holds left parts.
 
 pub returns-clause-leaves : goal.returns-clause-leaves
 returns-clause-leaves g c = both_then c.rows.invariant.leaves (λ none. none) c.in_ok-copy_next.ensures.leaves
+
+pub returns-clause-rises : goal.returns-clause-rises
+returns-clause-rises g c = omega (arith, c.rows.invariant.rises, c.in_ok-copy_next.ensures.rises)

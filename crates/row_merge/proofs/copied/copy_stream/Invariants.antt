@@ -1,5 +1,5 @@
 -- the rows that were taken are in the part that is written
-use Rattle.std.proofs.Common.{◌≡◌, All, List, is_some, length}
+use Rattle.std.proofs.Common.{◌≡◌, ◌≤◌, All, List, is_some, length}
 use Rattle.std.specs.List.{range_with_len}
 use Rattle.mt_base.specs.declared.partition.Partition.{Partition}
 use Rattle.mt_values.specs.Values.{Row}
@@ -19,6 +19,7 @@ invariant-rows g l = record {
   told : is_some l.out.stage.files ≡ is_some l.fn.out.stage.files;
   copying : (partition : Partition) (rows : List (List Row)) → PartsHold g.R.Dir.Dir.files l.inputs.schema.now l.inputs.parts.now rows → IsLeft l.fn.stream rows rows
       → All (ArePartRows l.inputs.schema.now partition) rows → IsCopying l.inputs.places.now rows l.stream l.out;
+  rises : l.fn.stream.held.most_read ≤ l.stream.held.most_read;
   leaves : LeavesBoth g.R.Arm l.fn.arm l.arm l.fn.out.stage.failed l.out.stage.failed ⊥;
 }
 

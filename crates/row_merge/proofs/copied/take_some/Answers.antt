@@ -1,6 +1,7 @@
-use Rattle.std.proofs.Common.{◌≡◌, ◌-◌, ◌∙◌, ◌++◌, List, MatchOption, ap, drop, length, refl, subst, sym, take}
+use Rattle.std.proofs.Common.{◌≡◌, ◌∙◌, ◌++◌, List, MatchOption, ap, arith, drop, length, refl, subst, sym, take}
 use Rattle.mt_values.specs.Schemas.{column_types}
 use Rattle.row_merge.specs.declared.heads.Cursor.{Cursor}
+use Rattle.row_merge.specs.declared.held.Held.{Held}
 use Rattle.row_merge.specs.Heads.{AreOfTypes, IsNoneAhead, ahead_of}
 use Rattle.row_merge.specs.Held.{took_some}
 use Rattle.row_merge.specs.Merging.{AreRanked}
@@ -8,6 +9,7 @@ use Rattle.row_merge.specs.Stretches.{TakesStretch}
 use Rattle.row_merge.proofs.Copies.{takes_some, took_some_stream}
 use Rattle.row_merge.proofs.Nexts.{counted_stream}
 use Rattle.row_merge.proofs.Refills.{lent_again}
+use Rattle.row_merge.proofs.Totals.{held_stays}
 use Rattle.row_merge.proofs.copied.take_some.Goals as goal
 
 -- no row is in memory
@@ -20,7 +22,10 @@ returns-in_default-clause-stream g c =
     let back : take s.cursors.len (new ++ drop (length new) s.cursors.items) ≡ new = lent_again s.cursors.items shown new s.cursors.len c.deref_mut.ensures.value c.deref_mut.ensures.len c.take_stretch.ensures.count in
     let none : IsNoneAhead shown new = subst (λ found. MatchOption found (IsNoneAhead shown new) (TakesStretch i.places.now shown new)) c.in_default.is c.in_ok-own.ensures.takes in
     counted_stream i s _ c.requires (back ∙ none.same ∙ c.deref_mut.ensures.value) c.requires.readers
-    (subst (λ (cs : List Cursor). AreRanked i.places.now (ahead_of cs) c.take_stretch.new.ranked.items) (sym back) c.in_ok-own.ensures.ranked) (record { read = refl; within = λ inputs size w. w }) c.requires.none_made
+    (subst (λ (cs : List Cursor). AreRanked i.places.now (ahead_of cs) c.take_stretch.new.ranked.items) (sym back) c.in_ok-own.ensures.ranked) (held_stays s.held s.held refl) c.requires.none_made
+
+pub returns-in_default-clause-rises : goal.returns-in_default-clause-rises
+returns-in_default-clause-rises g c = omega arith
 
 -- rows were taken
 pub returns-clause-takes : goal.returns-clause-takes
@@ -50,3 +55,6 @@ returns-clause-stream g c =
     (c.took_some.ensures ∙ ap (λ n. took_some n s.held) c.count.ensures)
     (subst (AreOfTypes (column_types i.schema.now)) (sym back) (c.in_ok-own.ensures.types (column_types i.schema.now) own))
     (subst (λ (cs : List Cursor). AreRanked i.places.now (ahead_of cs) c.take_stretch.new.ranked.items) (sym back) c.in_ok-own.ensures.ranked)
+
+pub returns-clause-rises : goal.returns-clause-rises
+returns-clause-rises g c = omega (arith, ap (λ (h : Held). h.most_read) c.took_some.ensures)

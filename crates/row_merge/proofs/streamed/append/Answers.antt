@@ -4,7 +4,7 @@ use Rattle.mt_values.specs.Schemas.{column_types}
 use Rattle.mt_values.specs.Values.{Row, types_of}
 use Rattle.mt_values.specs.declared.schema.Schema.{Schema}
 use Rattle.part_reader.specs.part_writer.Growing.{HasRows}
-use Rattle.row_merge.proofs.Appending.{appended_keeps, appended_made, gave_keeps, gave_made, holds_at, one_row_more}
+use Rattle.row_merge.proofs.Appending.{appended_given, appended_keeps, appended_made, gave_given, gave_keeps, gave_made, holds_at, one_row_more}
 use Rattle.row_merge.proofs.streamed.append.Goals as goal
 
 pub loop-row-init : goal.loop-row-init
@@ -15,6 +15,7 @@ loop-row-init g c =
       told = refl;
       count = refl;
       made = omega (arith, gave_made (length c.args.rows.now) held c.gave.new.self c.requires.made c.gave.ensures);
+      given = gave_given (length c.args.rows.now) held c.gave.new.self c.gave.ensures;
       held = gave_keeps (length c.args.rows.now) held c.gave.new.self c.requires.made c.gave.ensures;
     }
 
@@ -39,6 +40,7 @@ loop-row-preserved g c =
       told = c.in_ok-push.ensures.told ∙ before.told;
       count = c.in_ok-push.ensures.cause.ok ∙ before.count;
       made = appended_made 1 _ c.loop-row.held c.appended.new.self (omega (arith, before.made)) c.appended.ensures;
+      given = appended_given 1 (length rows) c.loop-row.held c.appended.new.self before.given c.appended.ensures;
       held = appended_keeps 1 c.args.held.now c.loop-row.held c.appended.new.self before.held c.appended.ensures;
     }
 
@@ -53,3 +55,6 @@ returns-clause-whole g c =
 
 pub returns-clause-made : goal.returns-clause-made
 returns-clause-made g c = omega (arith, c.loop-row.invariant.made)
+
+pub returns-clause-given : goal.returns-clause-given
+returns-clause-given g c = c.loop-row.invariant.given

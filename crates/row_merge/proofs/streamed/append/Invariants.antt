@@ -12,5 +12,6 @@ invariant-loop-row g l = record {
   told : is_some l.out.stage.files ≡ is_some l.fn.out.stage.files;
   count : l.out.stage.failed ≡ l.fn.out.stage.failed;
   made : l.held.made ≤ length l.rows - l.row-index;
+  given : length l.rows ≤ l.held.most_given;
   held : KeepsHeld l.fn.held l.held;
 }

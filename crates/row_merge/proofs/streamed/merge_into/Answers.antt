@@ -40,3 +40,6 @@ returns-clause-merged g c = λ partition rows holds parts. c.merge_opened-merged
 
 pub returns-clause-table : goal.returns-clause-table
 returns-clause-table g c = on_ok_weaker c.merge_opened-merged.result (λ e. e ∙ c.requires.table) c.merge_opened-merged.ensures.table
+
+pub returns-clause-reached : goal.returns-clause-reached
+returns-clause-reached g c = λ small. c.merge_opened-merged.ensures.reached small c.in-Ok-open_whole.ensures.unread

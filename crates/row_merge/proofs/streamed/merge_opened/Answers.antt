@@ -1,4 +1,5 @@
-use Rattle.std.proofs.Common.{subst}
+use Rattle.std.proofs.Common.{arith, subst}
+use Rattle.std.proofs.lemmas.Result.{on_ok_weaker}
 use Rattle.part_reader.specs.Faults.{IsNoDamage}
 use Rattle.part_reader.proofs.Gaining.{handed_on}
 use Rattle.row_merge.specs.MergedParts.{ExplainsMerge}
@@ -27,3 +28,9 @@ returns-clause-merged g c = λ partition rows holds is parts. c.merge_by_engine.
 
 pub returns-clause-leaves : goal.returns-clause-leaves
 returns-clause-leaves g c = both_then (arm_alone c.args.out.now.stage.failed c.in_ok-fill_all.ensures.arm) (λ none. none) c.merge_by_engine.ensures.leaves
+
+pub returns-clause-reached : goal.returns-clause-reached
+returns-clause-reached g c = λ small unread.
+    let filled = c.in_ok-fill_all.ensures in
+    let counts = filled.stream.counts c.requires.shaped in
+    on_ok_weaker c.merge_by_engine.result (λ rises. omega (arith, filled.first c.requires.shaped unread, counts.exact small, counts.reached, rises)) c.merge_by_engine.ensures.rises

@@ -1,17 +1,17 @@
-use Rattle.std.proofs.Common.{◌<◌, ◌∙◌, ◌++◌, IfSome, List, [], length, refl, subst, sym}
+use Rattle.std.proofs.Common.{◌≡◌, ◌<◌, ◌∙◌, ◌++◌, IfSome, List, [], arith, length, refl, subst, sym}
+use Rattle.std.specs.List.{range_with_len}
 use Rattle.mt_outside.proofs.LeftArms.{arm_same}
 use Rattle.mt_values.specs.Grid.{AreRowsOf}
 use Rattle.mt_values.specs.Schemas.{column_types}
 use Rattle.mt_values.specs.Values.{Row}
 use Rattle.mt_values.specs.declared.schema.Schema.{Schema}
 use Rattle.part_reader.specs.Faults.{IsNoDamage}
-use Rattle.part_reader.specs.part_writer.Growing.{HasRows}
 use Rattle.part_reader.proofs.Gaining.{handed_on}
+use Rattle.rule_replacing.specs.rule_law.TableRows.{IsTableRow}
 use Rattle.row_merge.specs.MergedParts.{ExplainsMerge}
-use Rattle.row_merge.specs.Streams.{GivesRow, HasPending, IsPending, rows_to_come}
+use Rattle.row_merge.specs.Streams.{GivesRow, HandsOver, HasPending, IsPending, rows_to_come}
 use Rattle.row_merge.proofs.Explaining.{stream_says}
-use Rattle.row_merge.proofs.Handing.{merge_begins, merge_counted, merge_goes_on, merged_all, none_pending, row_is_own}
-use Rattle.row_merge.proofs.Nexts.{counted_stream}
+use Rattle.row_merge.proofs.Handing.{merge_begins, merged_all, none_pending, own_left, own_taken}
 use Rattle.row_merge.proofs.SealedMerges.{explains_any, no_damage}
 use Rattle.row_merge.proofs.Written.{arm_alone, both_as, both_then, first_says, handed_both, no_fault, stage_alone, stage_failed}
 use Rattle.row_merge.proofs.streamed.merge_stream.Goals as goal
@@ -22,12 +22,14 @@ rows-init g c =
     let rule = c.args.rule.now in
     record {
       stream = c.requires.stream;
+      order = subst (λ xs. xs ≡ range_with_len 0 (length xs)) (sym c.new-order.ensures.items) refl;
       whole = record { rows = []; has = c.requires.empty };
       table = refl;
       told = refl;
       current = none_pending i.places.now (g.Q.RowRule.run rule) (g.Q.RowRule.holds rule) (g.Q.RowRule.takes rule) (column_types i.schema.now);
       merging = λ partition rows apart holds left parts.
           merge_begins (g.Q.RowRule.run rule) (g.Q.RowRule.holds rule) (g.Q.RowRule.takes rule) i rows partition c.args.stream.now c.args.out.now c.requires.stream.inputs.places_are left parts c.requires.empty;
+      rises = omega arith;
       leaves = arm_alone c.args.out.now.stage.failed (arm_same c.args.arm.now);
     }
 
@@ -54,14 +56,20 @@ hand_over-requires-clause-takes g c = c.requires.takes
 pub hand_over-requires-clause-inputs : goal.hand_over-requires-clause-inputs
 hand_over-requires-clause-inputs g c = c.requires.stream.inputs
 
-pub append-requires-clause-typed : goal.append-requires-clause-typed
-append-requires-clause-typed g c = λ κs within.
+pub append_on-requires-clause-takes : goal.append_on-requires-clause-takes
+append_on-requires-clause-takes g c = λ κs within. c.requires.takes
+
+pub append_on-requires-clause-current : goal.append_on-requires-clause-current
+append_on-requires-clause-current g c = λ κs within. c.in-Ok.ensures.current c.rows.invariant.current
+
+pub append_on-requires-clause-typed : goal.append_on-requires-clause-typed
+append_on-requires-clause-typed g c = λ κs within.
     let types = column_types c.args.inputs.now.schema.now in
     subst (λ (x : Schema). AreRowsOf (column_types x) c.deref.result.now) (sym (c.rows.invariant.table ∙ c.requires.table))
     (subst (AreRowsOf types) (sym c.deref.ensures.value) (c.in-Ok.ensures.typed c.rows.invariant.current))
 
-pub append-requires-clause-made : goal.append-requires-clause-made
-append-requires-clause-made g c = λ κs within. c.in_ok-row.ensures.stream.none_made
+pub append_on-requires-clause-table : goal.append_on-requires-clause-table
+append_on-requires-clause-table g c = λ κs within. c.rows.invariant.table ∙ c.requires.table
 
 pub rows-preserved : goal.rows-preserved
 rows-preserved g c =
@@ -71,29 +79,31 @@ rows-preserved g c =
     let holds = g.Q.RowRule.holds rule in
     let takes = g.Q.RowRule.takes rule in
     let before = c.rows.invariant in
-    let old = c.rows.stream in
     let mid = c.next_row.new.stream in
-    let appended = c.append.ensures in
+    let now = c.in-Ok-append_on.ensures in
     record {
-      stream = counted_stream i mid _ c.in_ok-row.ensures.stream refl c.in_ok-row.ensures.stream.readers c.in_ok-row.ensures.stream.ranked appended.held c.in-Ok-append.ensures.made;
-      whole = c.in-Ok-append.ensures.whole;
-      table = c.in-Ok-append.ensures.table ∙ before.table;
-      told = c.in-Ok-append.ensures.told ∙ before.told;
-      current = c.in-Ok.ensures.current before.current;
+      stream = now.stream;
+      order = now.order;
+      whole = now.whole;
+      table = now.table ∙ before.table;
+      told = now.told ∙ before.told;
+      current = now.current;
       merging = λ partition rows apart hold left parts.
           let m = before.merging partition rows apart hold left parts in
           let t = subst (GivesRow i.places.now rows m.left mid) c.in-Some.is (c.in_ok-row.ensures.gives rows m.left hold m.left_is m.over.merging.sorted) in
-          let own = row_is_own run holds takes i rows old mid c.rows.current c.in-Ok.new c.rows.out c.append.new.out c.in-Some.row m t in
-          let has = subst (λ (zs : List Row). HasRows c.append.new.out (m.done ++ zs)) c.deref.ensures.value (c.in-Ok-append.ensures.rows m.done m.has) in
-          merge_counted run holds takes i rows mid _ c.in-Ok.new c.append.new.out refl refl
-          (merge_goes_on run holds takes i rows old mid c.rows.current c.in-Ok.new c.rows.out c.append.new.out c.in-Some.row m t c.in-Ok.kept.items has
-          (c.in-Ok.ensures.hands rows m.done m.left t.after apart own.signed m.over t.taken));
+          let own = own_taken (IsTableRow i.schema.now) i.places.now m.left t.after c.in-Some.row t.taken m.own in
+          let handed = c.in-Ok.ensures.hands rows m.done m.left t.after apart own.signed m.over t.taken in
+          let over = subst (λ (zs : List Row). HandsOver i.places.now run holds takes (column_types i.schema.now) rows (m.done ++ zs) t.after c.in-Ok.new) (sym c.deref.ensures.value) handed in
+          now.merges rows t.after m.done apart m.has over t.left_is (own_left (IsTableRow i.schema.now) i.places.now m.left t.after c.in-Some.row t.taken m.own);
+      rises = omega (arith, before.rises, c.in_ok-row.ensures.rises, now.rises);
       leaves = both_then before.leaves (λ none. none) (both_then (arm_alone c.rows.out.stage.failed c.in_ok-row.ensures.arm) (λ none. none)
-          (stage_alone c.next_row.new.arm c.rows.out.stage.failed c.append.new.out.stage.failed ⊥ appended.cause.later (λ f. absurd f) (λ none. c.in-Ok-append.ensures.cause.ok)));
+          (stage_alone c.next_row.new.arm c.rows.out.stage.failed c.append_on.new.out.stage.failed ⊥ c.append_on.ensures.cause.later (λ f. absurd f) (λ none. now.cause.ok)));
     }
 
 pub rows-smaller : goal.rows-smaller
-rows-smaller g c = subst (λ found. IfSome found (λ (row : Row). rows_to_come c.next_row.new.stream < rows_to_come c.rows.stream)) c.in-Some.is c.in_ok-row.ensures.fewer
+rows-smaller g c =
+    let fewer = subst (λ found. IfSome found (λ (row : Row). rows_to_come c.next_row.new.stream < rows_to_come c.rows.stream)) c.in-Some.is c.in_ok-row.ensures.fewer in
+    omega (arith, fewer, c.in-Ok-append_on.ensures.fewer)
 
 -- the last key ends
 pub end_merge-requires-clause-current : goal.end_merge-requires-clause-current
@@ -126,6 +136,9 @@ returns-in-Ok-end_merge-clause-leaves g c =
     (stage_alone c.next_row.new.arm c.rows.out.stage.failed c.end_merge.new.out.stage.failed ⊥ c.end_merge.ensures.cause.later (λ f. absurd f) (λ none. c.in-Ok-end_merge.ensures.cause.ok))))
     (λ fault. absurd fault) (λ none. absurd none)
 
+pub returns-in-Ok-end_merge-clause-rises : goal.returns-in-Ok-end_merge-clause-rises
+returns-in-Ok-end_merge-clause-rises g c = omega (arith, c.rows.invariant.rises, c.in_ok-row.ensures.rises, c.end_merge.ensures.held.most)
+
 -- memory ran out
 pub returns-in_default-hand_over-clause-damaged : goal.returns-in_default-hand_over-clause-damaged
 returns-in_default-hand_over-clause-damaged g c = let i = c.args.inputs.now in first_says g.R.Dir.Dir.files i.schema.now i.parts.now c.index-inputs-0.result c.requires.some c.index-inputs-0.is _ tt
@@ -144,26 +157,26 @@ pub returns-in-Err-clause-sound : goal.returns-in-Err-clause-sound
 returns-in-Err-clause-sound g c = λ rows holds. no_damage c.in-Err.error c.from.result c.from.ensures
 
 pub returns-in-Err-clause-most : goal.returns-in-Err-clause-most
-returns-in-Err-clause-most g c = let i = c.args.inputs.now in c.append.ensures.held.within (length i.parts.now) i.schema.now.granularity (c.next_row.ensures.most c.requires.shaped)
+returns-in-Err-clause-most g c = c.append_on.ensures.most c.requires.shaped
 
 pub returns-in-Err-clause-leaves : goal.returns-in-Err-clause-leaves
 returns-in-Err-clause-leaves g c =
     both_then (both_then c.rows.invariant.leaves (λ none. none) (arm_alone c.rows.out.stage.failed c.in_ok-row.ensures.arm)) (λ none. none)
-    (stage_failed c.next_row.new.arm c.rows.out.stage.failed c.append.new.out.stage.failed c.append.result c.in-Err.error c.from.result c.in-Err.is c.from.ensures c.append.ensures.cause)
+    (stage_failed c.next_row.new.arm c.rows.out.stage.failed c.append_on.new.out.stage.failed c.append_on.result c.in-Err.error c.from.result c.in-Err.is c.from.ensures c.append_on.ensures.cause)
 
-pub returns-in-Err-end_merge-clause-damaged : goal.returns-in-Err-end_merge-clause-damaged
-returns-in-Err-end_merge-clause-damaged g c =
+pub returns-clause-damaged : goal.returns-clause-damaged
+returns-clause-damaged g c =
     let i = c.args.inputs.now in
     let k = c.index-inputs-0-in-Err-end_merge.result in
     first_says g.R.Dir.Dir.files i.schema.now i.parts.now k c.requires.some c.index-inputs-0-in-Err-end_merge.is c.from-in-Err-end_merge.result (explains_any g.R.Dir.Dir.files i.schema.now k.part c.in-Err-end_merge.error c.from-in-Err-end_merge.result c.from-in-Err-end_merge.ensures)
 
-pub returns-in-Err-end_merge-clause-sound : goal.returns-in-Err-end_merge-clause-sound
-returns-in-Err-end_merge-clause-sound g c = λ rows holds. no_damage c.in-Err-end_merge.error c.from-in-Err-end_merge.result c.from-in-Err-end_merge.ensures
+pub returns-clause-sound : goal.returns-clause-sound
+returns-clause-sound g c = λ rows holds. no_damage c.in-Err-end_merge.error c.from-in-Err-end_merge.result c.from-in-Err-end_merge.ensures
 
-pub returns-in-Err-end_merge-clause-most : goal.returns-in-Err-end_merge-clause-most
-returns-in-Err-end_merge-clause-most g c = let i = c.args.inputs.now in c.end_merge.ensures.held.within (length i.parts.now) i.schema.now.granularity (c.next_row.ensures.most c.requires.shaped)
+pub returns-clause-most : goal.returns-clause-most
+returns-clause-most g c = let i = c.args.inputs.now in c.end_merge.ensures.held.within (length i.parts.now) i.schema.now.granularity (c.next_row.ensures.most c.requires.shaped)
 
-pub returns-in-Err-end_merge-clause-leaves : goal.returns-in-Err-end_merge-clause-leaves
-returns-in-Err-end_merge-clause-leaves g c =
+pub returns-clause-leaves : goal.returns-clause-leaves
+returns-clause-leaves g c =
     both_then (both_then c.rows.invariant.leaves (λ none. none) (arm_alone c.rows.out.stage.failed c.in_ok-row.ensures.arm)) (λ none. none)
     (stage_failed c.next_row.new.arm c.rows.out.stage.failed c.end_merge.new.out.stage.failed c.end_merge.result c.in-Err-end_merge.error c.from-in-Err-end_merge.result c.in-Err-end_merge.is c.from-in-Err-end_merge.ensures c.end_merge.ensures.cause)

@@ -86,3 +86,6 @@ returns-in-Ok-finish_part-clause-arm g c =
     let b = c.in-Ok.ensures in
     let left = begun_then b.tells b.cause.ok c.in-Ok-merge_into.ensures.leaves in
     as_none c.finish_part.result c.in-Ok-finish_part.part disk.Fault c.in-Ok-finish_part.is (finished c.finish_part.result b.none_failed left (λ none. none) c.finish_part.ensures.tells c.finish_part.ensures.cause)
+
+pub returns-in-Ok-finish_part-clause-reached : goal.returns-in-Ok-finish_part-clause-reached
+returns-in-Ok-finish_part-clause-reached g c = c.in-Ok-merge_into.ensures.reached

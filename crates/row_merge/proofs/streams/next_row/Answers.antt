@@ -122,3 +122,12 @@ returns-clause-fewer g c =
     let taken : ℕ × Row = (c.in-Some.number, c.in-Some.row) in
     let t = subst (MayTake i s mid) c.in-Some.is c.in-Ok.ensures.takes in
     omega (arith, taken_fewer i s mid taken t c.take_next.ensures.readers, c.in_ok-refill.ensures.count)
+
+pub returns-in_default-found-clause-rises : goal.returns-in_default-found-clause-rises
+returns-in_default-found-clause-rises g c = c.in-Ok.ensures.rises
+
+pub returns-then-has_row-clause-rises : goal.returns-then-has_row-clause-rises
+returns-then-has_row-clause-rises g c = c.in-Ok.ensures.rises
+
+pub returns-clause-rises : goal.returns-clause-rises
+returns-clause-rises g c = omega (arith, c.in-Ok.ensures.rises, c.in_ok-refill.ensures.reads.most)

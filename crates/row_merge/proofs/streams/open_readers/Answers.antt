@@ -1,4 +1,5 @@
-use Rattle.std.proofs.Common.{◌<◌, All, arith, length, rules, subst, sym}
+use Rattle.std.proofs.Common.{◌≡◌, ◌<◌, ◌∙◌, All, ap, arith, length, rules, subst, sym}
+use Rattle.row_merge.specs.Streams.{share}
 use Rattle.row_merge.proofs.Opening.{one_reader_more, reader_like}
 use Rattle.row_merge.proofs.streams.open_readers.Goals as goal
 
@@ -13,5 +14,9 @@ loop-own-preserved g c =
     let plan = c.args.plan.now in
     let own = c.own-item.result in
     let reader = c.in_ok-reader.reader in
-    one_reader_more schema plan c.args.parts.now c.loop-own.own-index own c.loop-own.readers.items c.push.new.self.items reader (omega arith) c.own-item.is c.loop-own.invariant
-    (reader_like schema plan own reader c.deref-in-loop-own.result.now c.deref.result.now c.in_ok-reader.ensures c.deref-in-loop-own.ensures.value c.deref.ensures.value) c.in_ok-push.ensures.items
+    let parts = c.args.parts.now in
+    let most = share (length parts) (length plan.columns.items) in
+    let columns : c.len.result ≡ length plan.columns.items = omega (arith, c.len.ensures, plan.columns.ok.0) in
+    let bytes : c.share_of-most.result ≡ most = c.share_of-most.ensures.exact ∙ ap (share (length parts)) columns in
+    one_reader_more schema plan most parts c.loop-own.own-index own c.loop-own.readers.items c.push.new.self.items reader (omega arith) c.own-item.is c.loop-own.invariant
+    (reader_like schema plan most own reader c.deref-in-loop-own.result.now c.deref.result.now c.share_of-most.result c.in_ok-reader.ensures c.deref-in-loop-own.ensures.value c.deref.ensures.value bytes) c.in_ok-push.ensures.items

@@ -3,6 +3,7 @@ use Rattle.mt_outside.proofs.LeftArms.{arm_as}
 use Rattle.mt_values.specs.Schemas.{column_types}
 use Rattle.part_reader.specs.declared.reading.PartFault.TheVariants.{Fault, NoMemory}
 use Rattle.part_reader.specs.Readings.{GivesNext, LeavesRows, rows_left}
+use Rattle.part_reader.proofs.HeldColumns.{left_at}
 use Rattle.row_merge.specs.declared.heads.Cursor.{Cursor}
 use Rattle.row_merge.specs.Heads.{AreComparable, AreOfTypes, ahead_of}
 use Rattle.row_merge.specs.Held.{read_more}
@@ -11,8 +12,9 @@ use Rattle.row_merge.specs.Merging.{AreRanked, ahead_at}
 use Rattle.row_merge.proofs.Nexts.{counted_stream}
 use Rattle.row_merge.proofs.Opening.{comparable}
 use Rattle.row_merge.proofs.Readers.{given_types, reader_held}
-use Rattle.row_merge.proofs.Refilling.{ReadsOn, none_fewer, none_later, none_left, none_readers, own_reader, own_says, reader_within, refilled_ahead, refilled_count, refilled_later, refilled_most, refilled_rows, refilled_stream}
+use Rattle.row_merge.proofs.Refilling.{ReadsOn, none_fewer, none_later, none_left, none_readers, none_reads, own_reader, own_says, reader_within, refilled_ahead, refilled_count, refilled_later, refilled_most, refilled_reads, refilled_rows, refilled_stream}
 use Rattle.row_merge.proofs.Refills.{lent_again}
+use Rattle.row_merge.proofs.Totals.{held_stays}
 use Rattle.row_merge.proofs.Written.{as_none, as_read, no_fault}
 use Rattle.row_merge.proofs.streams.refill.Goals as goal
 
@@ -25,8 +27,9 @@ returns-in-Err-clause-sound g c = λ rows holds.
     let i = c.args.inputs.now in
     let s = c.args.stream.now in
     let files = g.R.Dir.Dir.files in
-    c.in-Err.ensures.sound _
-    (reader_held files i.schema.now i.parts.now s.readers.items rows c.args.number c.index_mut.result.now c.requires.stream.readers holds c.requires.within c.index_mut.ensures.value)
+    let r = c.index_mut.result.now in
+    left_at files r.schema r.part r.places _ (reader_held files i.schema.now i.parts.now s.readers.items rows c.args.number r c.requires.stream.readers holds c.requires.within c.index_mut.ensures.value)
+    r.left c.in-Err.fault c.in-Err.ensures.damaged
 
 pub returns-in-Err-clause-damaged : goal.returns-in-Err-clause-damaged
 returns-in-Err-clause-damaged g c =
@@ -51,7 +54,7 @@ returns-in_default-clause-stream g c =
     let r = c.index_mut.result.now in
     let o : ReadsOn files i s c.args.number k r = record { stream = c.requires.stream; within = c.requires.within; none = c.requires.none; kept_is = c.index-inputs-number.is; r_is = c.index_mut.ensures.value } in
     let gives = subst (GivesNext files r c.next.new.self) c.in_default.is c.in-Ok.ensures.gives in
-    counted_stream i s _ c.requires.stream refl (none_readers files i s c.args.number k r o c.next.new.self gives.0) c.requires.stream.ranked (record { read = refl; within = λ inputs size w. w }) c.requires.stream.none_made
+    counted_stream i s _ c.requires.stream refl (none_readers files i s c.args.number k r o c.next.new.self gives.0) c.requires.stream.ranked (held_stays s.held s.held refl) c.requires.stream.none_made
 
 pub returns-in_default-clause-rows : goal.returns-in_default-clause-rows
 returns-in_default-clause-rows g c = λ rows holds.
@@ -91,6 +94,17 @@ returns-in_default-clause-goes_on g c =
     let o : ReadsOn files i s c.args.number k r = record { stream = c.requires.stream; within = c.requires.within; none = c.requires.none; kept_is = c.index-inputs-number.is; r_is = c.index_mut.ensures.value } in
     let gives = subst (GivesNext files r c.next.new.self) c.in_default.is c.in-Ok.ensures.gives in
     none_later files i s c.args.number k r o c.next.new.self gives.0
+
+pub returns-in_default-clause-reads : goal.returns-in_default-clause-reads
+returns-in_default-clause-reads g c =
+    let i = c.args.inputs.now in
+    let s = c.args.stream.now in
+    let files = g.R.Dir.Dir.files in
+    let k = c.index-inputs-number.result in
+    let r = c.index_mut.result.now in
+    let o : ReadsOn files i s c.args.number k r = record { stream = c.requires.stream; within = c.requires.within; none = c.requires.none; kept_is = c.index-inputs-number.is; r_is = c.index_mut.ensures.value } in
+    let gives = subst (GivesNext files r c.next.new.self) c.in_default.is c.in-Ok.ensures.gives in
+    none_reads files i s c.args.number k r o c.next.new.self gives.0 _ refl refl gives.1
 
 -- it has a block
 pub fill-requires-clause-comparable : goal.fill-requires-clause-comparable
@@ -228,6 +242,31 @@ returns-clause-goes_on g c =
       long = ap length back ∙ c.fill.ensures.count ∙ ap length c.deref_mut.ensures.value;
       held_is = c.read_more.ensures ∙ ap (λ n. read_more n s.held) c.len.ensures.count;
     })
+
+pub returns-clause-reads : goal.returns-clause-reads
+returns-clause-reads g c =
+    let i = c.args.inputs.now in
+    let s = c.args.stream.now in
+    let files = g.R.Dir.Dir.files in
+    let k = c.index-inputs-number.result in
+    let r = c.index_mut.result.now in
+    let o : ReadsOn files i s c.args.number k r = record { stream = c.requires.stream; within = c.requires.within; none = c.requires.none; kept_is = c.index-inputs-number.is; r_is = c.index_mut.ensures.value } in
+    let gives = subst (GivesNext files r c.next.new.self) c.in-Some.is c.in-Ok.ensures.gives in
+    let shown = c.deref_mut.result.now in
+    let new = c.fill.new.cursors in
+    let readers = set s.readers.items c.args.number c.next.new.self in
+    let cursors = take s.cursors.len (new ++ drop (length new) s.cursors.items) in
+    let back : take s.cursors.len (new ++ drop (length new) s.cursors.items) ≡ new = lent_again s.cursors.items shown new s.cursors.len c.deref_mut.ensures.value c.deref_mut.ensures.len c.fill.ensures.count in
+    let types = given_types files i.schema.now k r (own_reader files i s c.args.number k r o) c.next.new.self c.in-Some.block gives in
+    refilled_reads files i s c.args.number k r o c.next.new.self c.in-Some.block readers cursors c.read_more.new.self
+    (record {
+      gives = gives;
+      readers_are = refl;
+      ahead_is = ap ahead_of back ∙ c.fill.ensures.rows ∙ ap (λ (cs : List Cursor). set (ahead_of cs) c.args.number c.in-Some.block.rows) c.deref_mut.ensures.value;
+      types = subst (AreOfTypes (column_types i.schema.now)) (sym back) (c.fill.ensures.types (column_types i.schema.now) (subst (AreOfTypes (column_types i.schema.now)) (sym c.deref_mut.ensures.value) c.requires.stream.types) types);
+      long = ap length back ∙ c.fill.ensures.count ∙ ap length c.deref_mut.ensures.value;
+      held_is = c.read_more.ensures ∙ ap (λ n. read_more n s.held) c.len.ensures.count;
+    }) _ refl refl refl
 
 pub returns-clause-count : goal.returns-clause-count
 returns-clause-count g c =

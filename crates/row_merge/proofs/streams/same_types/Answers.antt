@@ -1,5 +1,5 @@
 use Rattle.std.proofs.lemmas.Bool.Decides.{Decides-at}
-use Rattle.row_merge.proofs.SameTypes.{types_same}
+use Rattle.mt_values.proofs.SameTypes.{types_same}
 use Rattle.row_merge.proofs.streams.same_types.Goals as goal
 
 pub returns : goal.returns

@@ -1,14 +1,15 @@
-use Rattle.std.proofs.Common.{◌≡◌, ◌∙◌, ◌++◌, All, IfSome, List, MatchOption, [], ap, drop, length, refl, subst, sym, take}
+use Rattle.std.proofs.Common.{◌≡◌, ◌∙◌, ◌++◌, All, IfSome, List, MatchOption, [], ap, arith, drop, length, refl, subst, sym, take}
 use Rattle.mt_values.specs.Schemas.{column_types}
 use Rattle.mt_values.specs.Values.{Row}
 use Rattle.row_merge.specs.declared.heads.Cursor.{Cursor}
+use Rattle.row_merge.specs.declared.held.Held.{Held}
 use Rattle.row_merge.specs.Heads.{AreComparable, AreOfTypes, IsNoneAhead, IsTypedAs, ahead_of}
 use Rattle.row_merge.specs.Held.{IsHeldWithin}
 use Rattle.row_merge.specs.Merging.{AreRanked, TakesFirst}
 use Rattle.row_merge.proofs.Nexts.{counted_stream, taken_stream}
 use Rattle.row_merge.proofs.Opening.{comparable}
 use Rattle.row_merge.proofs.Refills.{lent_again}
-use Rattle.row_merge.proofs.Totals.{took_within}
+use Rattle.row_merge.proofs.Totals.{held_stays, took_within}
 use Rattle.row_merge.proofs.streams.take_next.Goals as goal
 
 pub take_row-requires-clause-comparable : goal.take_row-requires-clause-comparable
@@ -44,10 +45,13 @@ returns-in_default-clause-stream g c =
     let back : take s.cursors.len (new ++ drop (length new) s.cursors.items) ≡ new = lent_again s.cursors.items shown new s.cursors.len c.deref_mut.ensures.value c.deref_mut.ensures.len c.take_row.ensures.count in
     let none : IsNoneAhead shown new = subst (λ found. MatchOption found (IsNoneAhead shown new) (λ f. TakesFirst i.places.now (ahead_of shown) f.0 f.1 (ahead_of new))) c.in_default.is c.in_ok-taken.ensures.takes in
     counted_stream i s _ c.requires (back ∙ none.same ∙ c.deref_mut.ensures.value) c.requires.readers
-    (subst (λ (cs : List Cursor). AreRanked i.places.now (ahead_of cs) c.take_row.new.ranked.items) (sym back) c.in_ok-taken.ensures.ranked) (record { read = refl; within = λ inputs size w. w }) c.requires.none_made
+    (subst (λ (cs : List Cursor). AreRanked i.places.now (ahead_of cs) c.take_row.new.ranked.items) (sym back) c.in_ok-taken.ensures.ranked) (held_stays s.held s.held refl) c.requires.none_made
 
 pub returns-in_default-clause-most : goal.returns-in_default-clause-most
 returns-in_default-clause-most g c = λ shaped. (c.requires.counts shaped).within
+
+pub returns-in_default-clause-rises : goal.returns-in_default-clause-rises
+returns-in_default-clause-rises g c = omega arith
 
 -- a row was taken
 pub returns-clause-takes : goal.returns-clause-takes
@@ -88,3 +92,6 @@ returns-clause-most g c = λ shaped.
     let i = c.args.inputs.now in
     let s = c.args.stream.now in
     subst (IsHeldWithin (length i.parts.now) i.schema.now.granularity) (sym c.took.ensures) (took_within (length i.parts.now) i.schema.now.granularity s.held (c.requires.counts shaped).within)
+
+pub returns-clause-rises : goal.returns-clause-rises
+returns-clause-rises g c = omega (arith, ap (λ (h : Held). h.most_read) c.took.ensures)

@@ -1,5 +1,5 @@
 -- the last of the rows that are counted comes before the other one, and a step more stays within those in memory
-use Rattle.std.proofs.Common.{◌≡◌, ◌<◌, ◌≤◌, ◌+◌, ◌-◌, ◌*◌, length}
+use Rattle.std.proofs.Common.{◌<◌, ◌≤◌, ◌+◌, ◌-◌, ◌*◌, length}
 use Rattle.row_merge.specs.Stretches.{LeadsAt}
 use Rattle.row_merge.proofs.stretches.count_before.Given as goal
 

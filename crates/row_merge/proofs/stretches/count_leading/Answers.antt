@@ -1,4 +1,4 @@
-use Rattle.std.proofs.Common.{◌≡◌, ◌<◌, ◌≤◌, ◌+◌, ◌-◌, ◌∙◌, [], ap, ap₂, arith, drop, get_or, length, length-drop, nat_cmp, rules, sym, Some, slice_get}
+use Rattle.std.proofs.Common.{◌≡◌, ◌+◌, ◌-◌, ◌∙◌, [], ap, ap₂, arith, get_or, length, length-drop, nat_cmp, rules, sym}
 use Rattle.std.specs.Ordering.{ordering_then}
 use Rattle.std.proofs.lemmas.List.{get_or-drop}
 use Rattle.mt_values.specs.Order.{key_cmp}

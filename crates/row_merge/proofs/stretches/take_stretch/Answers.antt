@@ -1,5 +1,4 @@
 use Rattle.std.proofs.Common.{◌≡◌, ◌+◌, ◌-◌, ◌∙◌, [], ap, append-nil, arith, get_or, refl, set, subst, sym, take}
-use Rattle.std.proofs.lemmas.List.{length-set}
 use Rattle.row_merge.specs.Heads.{ahead_of}
 use Rattle.row_merge.specs.Merging.{AreRanked, RowLeads, ahead_at}
 use Rattle.row_merge.specs.Stretches.{TakesStretch}
