@@ -7,6 +7,7 @@
     tests/answers.py compare < OUTPUT   compares what it works out with what run_cases printed
     tests/answers.py events SEED COUNT  prints that many random lists of events of the core, as directives of run_cases
     tests/answers.py steps SEED COUNT   prints that many random lists of events with mutations and rewrites
+    tests/answers.py streams SEED COUNT prints that many random merges of parts granule by granule
 
 It knows CREATE, INSERT, SELECT, EXPLAIN and OPTIMIZE over what this and earlier runs accepted, merges by the policy of the run's words,
 a disk that stops or of which some calls fail, and what a crash may leave of its names. It is slow and plain: a SELECT asks each row, and
@@ -21,6 +22,8 @@ import os
 import re
 import subprocess
 import sys
+
+from built.make_root import files_of, little, spelled
 
 HERE = os.path.dirname(os.path.realpath(__file__))
 CASES = os.path.join(HERE, "..", "crates", "run_cases")
@@ -1057,6 +1060,70 @@ def schema_shown(schema):
     return b", ".join(shown_columns + shown_parts)
 
 
+# ---- parts that are merged, by docs/engines.md and docs/formats.md
+
+READERS = 3 * 32
+
+
+def index_bytes(schema, index, rows):
+    """The bytes of the file of a skip index."""
+    place, most, granules = index
+    kind, size, spelling = schema["columns"][place][1].decode(), schema["granularity"] * granules, b""
+    for start in range(0, len(rows), size):
+        values = [row[place] for row in rows[start:start + size]]
+        kept = kept_of(values, most)
+        if most is not None:
+            # The distinct values in the order in which they come first, after their number.
+            kept = list(dict.fromkeys(values)) if kept else []
+            spelling += little(len(kept), 4)
+        spelling += b"".join(spelled(kind, text_or_number(value)) for value in kept)
+    return spelling
+
+
+def text_or_number(value):
+    """A value as `make_root.py` takes one."""
+    return value.decode() if isinstance(value, bytes) else value
+
+
+def manifest_of(schema, rows):
+    """The bytes of the manifest of a part of rows."""
+    kinds = [kind.decode() for _, kind, _ in schema["columns"]]
+    indexes = [(f"s{number}.bin", index_bytes(schema, index, rows)) for number, index in enumerate(schema["indexes"])]
+    rows = [[text_or_number(value) for value in row] for row in rows]
+    return files_of(kinds, schema["primary"], rows, indexes, schema["granularity"])["manifest.bin"]
+
+
+def line_of(row):
+    """The line of a row."""
+    return b"\t".join(escaped(value) if isinstance(value, bytes) else b"%d" % value for value in row) + b"\n"
+
+
+def inputs_of(schema, text):
+    """The rows of inputs, of which each has a bar after its lines."""
+    texts = text.removesuffix(b"|").split(b"|") if text else []
+    inputs = [rows_of(schema, lines_of(lines + b"\\.\n", 0)[0]) for lines in texts]
+    key = lambda row: [row[place] for place in order_of(schema)]
+    assert all(rows == sorted(rows, key=key) for rows in inputs), text
+    return inputs
+
+
+def stream(create, text):
+    """What a merge of parts leaves, granule by granule. One granule of each is read before a row is taken, and never more of it."""
+    statement, _ = next(statements_of(create))
+    if statement[0] != "create" or not text:
+        raise Unknown
+    schema = schema_of(statement[1])
+    inputs, size = inputs_of(schema, text), schema["granularity"]
+    rows = [row for each in inputs for row in each]
+    left, read = folded_by_key(schema, rows), sum(min(size, len(each)) for each in inputs)
+    manifest = manifest_of(schema, left)
+    granules = [left[start:start + size] for start in range(0, len(left), size)]
+    told = b"inputs %d, rows %d, left %d, most read %d, alike" % (len(inputs), len(rows), len(left), read)
+    told += b", manifest %d bytes, SHA-256 %s; granules" % (len(manifest), hashlib.sha256(manifest).hexdigest().encode())
+    told += b"".join(b" " + shown(b"".join(map(line_of, granule))) for granule in granules)
+    return told + b"; readers %d alike of %d" % (READERS, READERS)
+
+
 # ---- events of the core, and random ones
 
 class Dice:
@@ -1541,6 +1608,21 @@ class DrawnTable:
         return [("refused", self.dice.one_of(DRAWN_REFUSALS))]
 
 
+def drawn_stream(dice):
+    """Random inputs of a merge of parts, of one partition: the two directives that say them."""
+    table = DrawnTable(dice, False)
+    create = table.create()
+    schema = schema_of(next(statements_of(create.encode()))[0][1])
+    key = lambda row: [row[place] for place in order_of(schema)]
+    inputs = []
+    for _ in range(dice.below(4) + 1):
+        lines = [row.encode()[:-1] for row in (table.row() for _ in range(dice.below(5))) if row]
+        rows = [row for row in rows_of(schema, (lines, True)) if schema["partition"] is None or row[schema["partition"]] == 1]
+        inputs.append(b"".join(line_of(row) for row in sorted(rows, key=key)) + b"|")
+    text = b"".join(inputs).decode().replace("\n", "\\n").replace("\t", "\\t")
+    return [f"script {text}", f"stream {create}"]
+
+
 def drawn_script(dice, is_settled):
     """A random script: the policy of its run, and its statements, each with what it is."""
     policy = dice.one_of([b"near", b"head", b"tail"])
@@ -1679,6 +1761,8 @@ class Bench:
             yield course(rest.decode().split(";"))
         elif word == b"steps":
             yield steps(rest.decode().split(";"))
+        elif word == b"stream":
+            yield stream(bytes_of(rest), self.script)
         elif word == b"allows":
             yield b"true" if self.allows(rest) else b"false"
         elif word == b"names" and self.left is not None:
@@ -1700,7 +1784,7 @@ class Bench:
 
 
 RUNS = {b"run", b"again", b"check", b"probe", b"crash", b"crashes", b"stops", b"each", b"names", b"left"}
-KNOWN = RUNS | {b"allows", b"course", b"steps", b"bytes", b"twin", b"#", b""}
+KNOWN = RUNS | {b"allows", b"course", b"steps", b"stream", b"bytes", b"twin", b"#", b""}
 
 
 def choices_of(disk):
@@ -1708,6 +1792,19 @@ def choices_of(disk):
     for choice in range(1 << len(disk.published) - disk.settled):
         yield choice
         yield choice + (1 << 63)
+
+
+DRAWN = {
+    "events": ("lists of events", lambda dice: ["course " + ";".join(drawn_events(dice))]),
+    "steps": ("lists of events with mutations", lambda dice: ["steps " + ";".join(drawn_steps(dice))]),
+    "streams": ("merges of parts", drawn_stream),
+}
+
+
+def drawn_lines(kind, dice, count, which):
+    """Directives of so many random cases of a kind, under one name."""
+    title, drawn = DRAWN[kind]
+    return [f"case {title} {which}"] + [line for _ in range(count) for line in drawn(dice)]
 
 
 def fill(lines):
@@ -1780,12 +1877,8 @@ def main():
     if sys.argv[1:] == ["fill"]:
         text = sys.stdin.buffer.read()
         fill(text.split(b"\n")[:-1])
-    elif sys.argv[1:2] in (["events"], ["steps"]):
-        dice = Dice(int(sys.argv[2]))
-        word, drawn, title = ("course", drawn_events, "events") if sys.argv[1] == "events" else ("steps", drawn_steps, "events with mutations")
-        print(f"case lists of {title} of seed {sys.argv[2]}")
-        for _ in range(int(sys.argv[3])):
-            print(f"{word} " + ";".join(drawn(dice)))
+    elif sys.argv[1:2] and sys.argv[1] in DRAWN:
+        print("\n".join(drawn_lines(sys.argv[1], Dice(int(sys.argv[2])), int(sys.argv[3]), f"of seed {sys.argv[2]}")))
     elif sys.argv[1:] in (["cases"], ["compare"]):
         failed = False
         compared = {"standard input": compare_output} if sys.argv[1] == "compare" else {"run_cases": compare_cases, "tests/built": compare_built}

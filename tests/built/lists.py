@@ -1,16 +1,16 @@
 #!/usr/bin/env python3
-"""Runs random lists of events of the core, with mutations, merges, rewrites, crashes and snapshots, and compares what `run_cases` prints.
+"""Runs random lists of events of the core, or random merges of parts, by the built `run_cases`, and compares what it prints.
 
-    tests/built/lists.py [COUNT [EACH]]
+    tests/built/lists.py [KIND [COUNT]]
 
-COUNT is 10,000 if it is left out, and `long` is 100,000. The lists are those that `tests/answers.py steps SEED COUNT` prints. They come to
-the program in portions of EACH, 500 if it is left out, each in a run of its own, of at most AT_MOST seconds and MOST_MEMORY bytes. What each
-event gives is worked out row by row by `tests/answers.py`, and after each the program holds the visible parts against the history. Where a
-list shows a choice that a rule leaves, only the latter is wanted. The seed is 20261130, whose first 100 lists are among the cases of the
-gate; where SEED is set, it is the seed. The first list of a portion that differs is printed, and the status is 1. The program is built first;
+KIND is `steps` if it is left out: lists of events with mutations, merges, rewrites, crashes and snapshots. `streams` are merges of parts
+granule by granule, and `events` lists without mutations. COUNT is 10,000 if it is left out. They are those that `tests/answers.py KIND SEED
+COUNT` prints. They come to the program in portions, each in a run of its own, of at most AT_MOST seconds and MOST_MEMORY bytes, and what it
+prints is worked out by `tests/answers.py`. Where a list shows a choice that a rule leaves, nothing is worked out, and after each event the
+visible parts must stand for the history, which the program itself looks at. The seed is 20261130, whose first 100 lists of `steps` are among
+the cases of the gate; where SEED is set, it is the seed. The first that differs is printed, and the status is 1. The program is built first;
 where RUN_CASES is set, that is the program that is run.
 """
-import itertools
 import os
 import pathlib
 import resource
@@ -21,12 +21,13 @@ HERE = pathlib.Path(__file__).resolve().parent
 ROOT = HERE.parent.parent
 sys.path.insert(0, str(HERE.parent))
 sys.dont_write_bytecode = True
-from answers import Bench, Dice, drawn_steps  # pylint: disable=wrong-import-position
+from answers import Bench, Dice, drawn_lines  # pylint: disable=wrong-import-position
 
 SEED = 20261130
+PORTION = 500
 AT_MOST = 600
 MOST_MEMORY = 1 << 30
-STANDING = b"; the parts stand"
+STANDS = (b"; the parts stand", b"; after 0 the parts do not stand")
 
 
 def program():
@@ -38,47 +39,55 @@ def program():
 
 
 def printed(path, lines):
-    """What the program prints of lines."""
+    """What the program prints of lines: of each the line, and what it comes to, nothing where that is nothing."""
     limit = lambda: resource.setrlimit(resource.RLIMIT_AS, (MOST_MEMORY, MOST_MEMORY))
     text = b"".join(line + b"\n" for line in lines)
     done = subprocess.run([path], input=text, stdout=subprocess.PIPE, preexec_fn=limit, timeout=AT_MOST, check=True)
-    return done.stdout.split(b"\n")[:-1]
+    found = []
+    for line in done.stdout.split(b"\n")[:-1]:
+        if line.startswith(b"  ") and found:
+            found[-1][1].append(line)
+        else:
+            found.append((line, []))
+    return found
 
 
-def compared(path, name, lists):
-    """Runs the lists of one portion. Gives of each whether it was worked out, and what differs of it, where something does."""
-    lines = [b"case " + name] + [b"steps " + events for events in lists]
+def answers(path, lines):
+    """Runs directives. Gives of each that answers whether it was worked out, and what differs of it, where something does."""
     found, bench = printed(path, lines), Bench()
-    bench.told(lines[0])
-    if found[:1] != lines[:1] or len(found) != 2 * len(lists) + 1:
-        yield True, b"%d lines are printed of %d lists" % (len(found), len(lists))
+    if [line for line, _ in found] != lines:
+        yield True, b"other lines are printed than there are"
         return
-    for line, told, answer in zip(lines[1:], found[1::2], found[2::2]):
+    script = b""
+    for line, told in found:
         wanted = bench.told(line)
-        if told != line or wanted not in ([], [answer]) or not answer.endswith(STANDING):
-            yield True, b"%s\nworked out %s\n   printed %s" % (line, *(wanted or [b"  nothing"]), answer)
-            return
-        yield bool(wanted), b""
+        script = line if line.startswith(b"script ") else script
+        is_known = bool(wanted) or not line.startswith((b"steps ", b"course "))
+        if told == wanted if is_known else len(told) == 1 and told[0].endswith(STANDS):
+            if told:
+                yield is_known, b""
+        else:
+            yield True, b"\n".join([script, line, b"worked out", *wanted, b"printed", *told])
 
 
 def main():
-    words = sys.argv[1:]
-    count = 100_000 if words[:1] == ["long"] else int(words[0]) if words else 10_000
-    each = int(words[1]) if words[1:] else 500
+    kind = sys.argv[1] if sys.argv[1:] else "steps"
+    count = int(sys.argv[2]) if sys.argv[2:] else 10_000
     seed = int(os.environ.get("SEED") or SEED)
     print(f"seed {seed}")
-    path, dice, tried = program(), Dice(seed), 0
-    drawn = (";".join(drawn_steps(dice)).encode() for _ in range(count))
-    for begun in range(0, count, each):
-        portion = list(itertools.islice(drawn, each))
-        for is_known, differing in compared(path, b"lists from %d of seed %d" % (begun, seed), portion):
-            tried += is_known
+    path, dice, tried, known = program(), Dice(seed), 0, 0
+    while tried < count:
+        size = min(PORTION, count - tried)
+        lines = drawn_lines(kind, dice, size, f"of seed {seed}, from {tried}")
+        for is_known, differing in answers(path, [line.encode() for line in lines]):
+            known += is_known
             if differing:
                 sys.stdout.buffer.write(differing + b"\n")
                 return 1
-        print(f"{begun + len(portion)} lists, none differs", flush=True)
-    print(f"{count} lists, {tried} of them worked out, none differs")
-    return 0 if tried else 1
+        tried += size
+        print(f"{tried} of {kind}, none differs", flush=True)
+    print(f"{tried} of {kind}, {known} of them worked out, none differs")
+    return 0 if known else 1
 
 
 if __name__ == "__main__":

@@ -83,7 +83,12 @@
 //!   in each way of adding the first of them as a block and the others one by one: how many rows and files it has, and in how many of these
 //!   ways each file has the same bytes; then one is given up, and how many files a stage has that the arm makes after it;
 //! - `append FILE BYTES FILE BYTES ..`: the bytes of each file of a stage whose files grew by these pieces, in the order in which the files
-//!   were made, and whether they are synced.
+//!   were made, and whether they are synced;
+//! - `stream CREATE`: the script's bytes are lines of data of the table that the statement makes, sorted by its key, with a bar after those of
+//!   each input. Parts of the inputs are merged granule by granule: how many inputs, rows, and rows that are left there are, and how many
+//!   rows at most were read and not yet handed on, and whether too many waited that the rule gave, or a count is left at the end; whether
+//!   the files are those of a part of the rows that are left of whole inputs in memory, and the mark of the manifest; the rows of each
+//!   granule, read by itself; and how many readers of chosen granules, of how many, give the rows of these.
 //!
 //! What engines' rules leave, of rows of small tables: `plain`, `replacing`, `replacing-version`, `summing`, `collapsing`, `versioned` or
 //! `aggregating`. A row is written in letters, one for each column of the table: the key, for `versioned` also the version; then for

@@ -1,5 +1,5 @@
-pub mod Changing
 pub mod Fitting
 pub mod Grown
 pub mod Putting
 pub mod Rewriting
+pub mod Streamed

@@ -1,7 +1,7 @@
 -- Rewrites of parts that stand for a history, by the first of the mutations for which they wait.
-use Rattle.std.proofs.Common.{◌≡◌, ◌+◌, ◌-◌, ◌<◌, ◌≤◌, ℕ, Bool, true, false, cond, List, [], ◌∷◌, ◌++◌, Some, None, All, arith, drop, get_or, length, suc, take, zero, refl, sym, ap, ◌∙◌, subst}
+use Rattle.std.proofs.Common.{◌≡◌, ◌+◌, ◌-◌, ◌<◌, ◌≤◌, ℕ, Bool, true, false, cond, List, [], ◌∷◌, ◌++◌, Some, None, All, arith, drop, get_or, length, suc, take, zero, sym, ap, ◌∙◌, subst}
 use Rattle.std.proofs.lemmas.Bool.Decides.{nat_tests}
-use Rattle.std.specs.Prelude.{filter, fold, nat_le, nat_lt, slice_get}
+use Rattle.std.specs.Prelude.{filter, nat_le, nat_lt, slice_get}
 use Rattle.std.specs.List.{AllByRecursion}
 use Rattle.std.proofs.Math.Seq.{drop-cons}
 use Rattle.std.proofs.lemmas.List.{drop_all}
@@ -9,16 +9,13 @@ use Rattle.std.proofs.lemmas.List.Elements.{All-filter, All-from_recursion, filt
 use Rattle.std.proofs.lemmas.List.Sums.{fold-append}
 use Rattle.std.proofs.lemmas.Option.{get_or_from_slice_get, slice_get_within}
 use Rattle.mt_base.specs.declared.partition.Partition.{Partition}
-use Rattle.mt_values.specs.declared.command.Alter.{Alter}
-use Rattle.mt_values.specs.declared.command.Command.{Command}
 use Rattle.mt_values.specs.declared.command.Command.TheVariants as command
 use Rattle.mt_values.specs.declared.mutation.Mutation.{Mutation}
-use Rattle.mt_values.specs.declared.schema.Schema.{Schema}
 use Rattle.mt_values.specs.Changes.{changed, mutated}
 use Rattle.mt_values.specs.Tables.{same_partition}
 use Rattle.mt_values.specs.Values.{Row}
-use Rattle.table_core.specs.mt_model.History.{History, schema_of}
-use Rattle.table_core.specs.mt_model.Numbers.{IsNumberOfMutation, mutations_among, mutations_in, numbered}
+use Rattle.table_core.specs.mt_model.History.{History}
+use Rattle.table_core.specs.mt_model.Numbers.{IsNumberOfMutation, mutations_in, numbered}
 use Rattle.table_core.specs.part_history.declared.part.CorePart.{CorePart}
 use Rattle.table_core.specs.part_history.Merges.{RewriteLeaves}
 use Rattle.table_core.specs.part_history.Parts.{PartStands, parts_in}
@@ -29,6 +26,7 @@ use Rattle.table_core.specs.declared.event.Task.{Task}
 use Rattle.table_core.specs.declared.event.Task.TheVariants as task
 use Rattle.table_core.specs.Core.{Core, IsCore}
 use Rattle.table_core.specs.Steps.{AreMade, MayPut, beside, sources_among}
+use Rattle.table_core.proofs.PartHistoryJoined.{StandsAmong, numbers_among}
 
 -- ---- what is at a place of a list
 
@@ -44,26 +42,6 @@ take_here (y ∷ xs) zero x is = ap (λ z. z ∷ []) (some_is is)
 take_here (y ∷ xs) (suc n) x is = take_here xs n x is
 
 -- ---- the numbers of mutations
-
-record StandsAmong (n : ℕ) (cs : List Command) (m : Mutation) : Type 0 where
-  from : n ≤ m.number
-  alter : Alter
-  there : slice_get cs (m.number - n) ≡ Some (command.Alter alter)
-
-all_later : (n : ℕ) (c : Command) (cs : List Command) (ms : List Mutation) → AllByRecursion (StandsAmong (n + 1) cs) ms → AllByRecursion (StandsAmong n (c ∷ cs)) ms
-all_later n c cs [] all = tt
-all_later n c cs (m ∷ ms) all =
-    let from = all.0.from in
-    let place : m.number - n ≡ suc (m.number - (n + 1)) = omega (arith, from) in
-    (record { from = omega (arith, from); alter = all.0.alter; there = ap (slice_get (c ∷ cs)) place ∙ all.0.there }, all_later n c cs ms all.1)
-
-numbers_among : (n : ℕ) (cs : List Command) → AllByRecursion (StandsAmong n cs) (mutations_among n cs)
-numbers_among n [] = tt
-numbers_among n (command.Create c ∷ cs) = all_later n (command.Create c) cs (mutations_among (n + 1) cs) (numbers_among (n + 1) cs)
-numbers_among n (command.Insert i ∷ cs) = all_later n (command.Insert i) cs (mutations_among (n + 1) cs) (numbers_among (n + 1) cs)
-numbers_among n (command.Alter a ∷ cs) =
-    let place : n - n ≡ 0 = omega arith in
-    (record { from = omega arith; alter = a; there = ap (slice_get (command.Alter a ∷ cs)) place }, all_later n (command.Alter a) cs (mutations_among (n + 1) cs) (numbers_among (n + 1) cs))
 
 number_is : (table : List ℕ) (h : History) (m : Mutation) → StandsAmong 1 (numbered table h) m → IsNumberOfMutation table m.number h
 number_is table h m s = record { from_one = s.from; alter = s.alter; there = s.there }

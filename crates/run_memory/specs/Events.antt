@@ -1,5 +1,5 @@
 -- Events over tables of numbers: each of them may come, whatever came before.
-use Rattle.std.specs.Prelude.{◌≡◌, ℕ, List, [], ◌∷◌, Bool, false, None, Some, codes, if◌then◌else◌, nat_eq}
+use Rattle.std.specs.Prelude.{◌≡◌, ℕ, List, [], ◌∷◌, Bool, false, Option, None, Some, codes, if◌then◌else◌, nat_eq}
 use Rattle.mt_base.specs.Limits.{default_granularity}
 use Rattle.mt_values.specs.declared.command.Command.{Command}
 use Rattle.mt_values.specs.declared.command.Command.TheVariants as command
@@ -18,41 +18,33 @@ use Rattle.table_core.specs.declared.event.Event.TheVariants as event
 use Rattle.table_core.specs.Core.{Core}
 use Rattle.table_core.specs.Steps.{MayPut}
 
--- the schema of a table with one partition: one column `a` of type UInt8, which is the key (docs/testing.md, "Cases: `run_cases`")
-abbrev pub of_numbers : Schema
-of_numbers = record {
-  columns = record { name = codes "a"; col_type = type.UInt8; function = None } ∷ [];
-  engine = engine.Plain;
-  key = 0 ∷ [];
-  primary = 0 ∷ [];
-  partition = None;
+-- the schema of a table with these columns, of which the one at a place is the key, an engine, and the column of its partitions
+abbrev pub keyed : List Column → Engine → ℕ → Option ℕ → Schema
+keyed columns rule place partition = record {
+  columns = columns;
+  engine = rule;
+  key = place ∷ [];
+  primary = place ∷ [];
+  partition = partition;
   granularity = default_granularity;
   indexes = [];
 }
+
+-- a column of type UInt8
+abbrev pub number_column : List ℕ → Column
+number_column name = record { name = name; col_type = type.UInt8; function = None }
+
+-- the schema of a table with one partition: one column `a` of type UInt8, which is the key (docs/testing.md, "Cases: `run_cases`")
+abbrev pub of_numbers : Schema
+of_numbers = keyed (number_column (codes "a") ∷ []) engine.Plain 0 None
 
 -- the schema of a table with several partitions: columns `p` and `a` of type UInt8, which are the partition column and the key (docs/testing.md, "Cases: `run_cases`")
 abbrev pub parted : Schema
-parted = record {
-  columns = record { name = codes "p"; col_type = type.UInt8; function = None } ∷ record { name = codes "a"; col_type = type.UInt8; function = None } ∷ [];
-  engine = engine.Plain;
-  key = 1 ∷ [];
-  primary = 1 ∷ [];
-  partition = Some 0;
-  granularity = default_granularity;
-  indexes = [];
-}
+parted = keyed (number_column (codes "p") ∷ number_column (codes "a") ∷ []) engine.Plain 1 (Some 0)
 
 -- the schema of a table with columns `a` and `b` of type UInt8, of which the first is the key, and with an engine (docs/testing.md, "Cases: `run_cases`")
 abbrev pub of_pairs : Engine → Schema
-of_pairs rule = record {
-  columns = record { name = codes "a"; col_type = type.UInt8; function = None } ∷ record { name = codes "b"; col_type = type.UInt8; function = None } ∷ [];
-  engine = rule;
-  key = 0 ∷ [];
-  primary = 0 ∷ [];
-  partition = None;
-  granularity = default_granularity;
-  indexes = [];
-}
+of_pairs rule = keyed (number_column (codes "a") ∷ number_column (codes "b") ∷ []) rule 0 None
 
 -- the schema of a table whose merges leave the last row of each key (docs/testing.md, "Cases: `run_cases`")
 abbrev pub of_lasts : Schema
@@ -64,20 +56,11 @@ of_sums = of_pairs (engine.Summing (1 ∷ []))
 
 -- the schema of a table whose rows have a mark: columns `a`, which is the key, and `c` of type UInt8, with a column between them, and an engine (docs/testing.md, "Cases: `run_cases`")
 abbrev pub of_marks : Engine → Column → Schema
-of_marks rule middle = record {
-  columns = record { name = codes "a"; col_type = type.UInt8; function = None } ∷ middle
-      ∷ record { name = codes "c"; col_type = type.UInt8; function = None } ∷ [];
-  engine = rule;
-  key = 0 ∷ [];
-  primary = 0 ∷ [];
-  partition = None;
-  granularity = default_granularity;
-  indexes = [];
-}
+of_marks rule middle = keyed (number_column (codes "a") ∷ middle ∷ number_column (codes "c") ∷ []) rule 0 None
 
 -- a column `b` of type UInt8
 abbrev pub number_b : Column
-number_b = record { name = codes "b"; col_type = type.UInt8; function = None }
+number_b = number_column (codes "b")
 
 -- the schema of a plain table whose rows have a mark (docs/testing.md, "Cases: `run_cases`")
 abbrev pub of_triples : Schema
@@ -101,16 +84,8 @@ of_greatest = of_marks engine.Aggregating (record { name = codes "b"; col_type =
 
 -- the schema of a table whose merges cancel rows of one version by their sign: columns `a`, which is the key, `b`, the version, `c` and the sign `s` (docs/testing.md, "Cases: `run_cases`")
 abbrev pub of_versions : Schema
-of_versions = record {
-  columns = record { name = codes "a"; col_type = type.UInt8; function = None } ∷ number_b
-      ∷ record { name = codes "c"; col_type = type.UInt8; function = None } ∷ record { name = codes "s"; col_type = type.Int8; function = None } ∷ [];
-  engine = engine.Versioned 3 1;
-  key = 0 ∷ [];
-  primary = 0 ∷ [];
-  partition = None;
-  granularity = default_granularity;
-  indexes = [];
-}
+of_versions =
+    keyed (number_column (codes "a") ∷ number_b ∷ number_column (codes "c") ∷ record { name = codes "s"; col_type = type.Int8; function = None } ∷ []) (engine.Versioned 3 1) 0 None
 
 -- whether a name begins with a letter
 abbrev pub begins_with : ℕ → List ℕ → Bool

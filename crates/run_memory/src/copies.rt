@@ -20,8 +20,8 @@ use table_core::part_history::CorePart;
 use table_core::part_name::{PartName, text};
 use table_core::predicate::Known;
 
-// The name of the part that the first INSERT into a table makes.
-fn first_part() -> PartName {
+/// The name of the part that the first INSERT into a table makes.
+pub fn first_part() -> PartName {
     PartName {
         partition: Partition::Whole,
         min_block: 1,

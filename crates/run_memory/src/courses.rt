@@ -324,44 +324,35 @@ impl Answer {
         Partition::Number(self.number_of(word))
     }
 
-    // A merge, as `p 1 0 2`: of a table, a partition, the place of its first part there, and how many parts.
+    // Parts of a table, as `p 1 0 2`: of a partition, the place of the first part there, and how many parts.
+    fn parts_asked(&mut self, text: &str) -> Sources {
+        let (table, rest) = first_word(text);
+        let (partition, rest) = first_word(rest);
+        let (first, count) = first_word(rest);
+        Sources {
+            table: self.table_of(table),
+            partition: self.partition_of(partition),
+            first: usize::from(self.small_of(first)),
+            count: usize::from(self.small_of(count)),
+        }
+    }
+
+    // A merge of the parts that a text asks for.
     fn merge(&mut self, course: &Course, text: &str) -> Option<Put>
         ensures { IfSome result (MayPut course.now) }
     {
-        let (table, rest) = first_word(text);
-        let (partition, rest) = first_word(rest);
-        let (first, count) = first_word(rest);
-        let table = self.table_of(table);
-        let partition = self.partition_of(partition);
-        let first = usize::from(self.small_of(first));
-        let count = usize::from(self.small_of(count));
-        let sources = Sources {
-            table,
-            partition,
-            first,
-            count,
-        };
+        let sources = self.parts_asked(text);
         course.merge_of(self.alloc, sources).ok()
     }
 
-    // A rewrite, as `p 1 0 2`: of a table, a partition, the place of the part there, and how many of the mutations for which it waits are
-    // applied. None where it waits for fewer.
+    // A rewrite of the first of the parts that a text asks for; their number is how many of the mutations for which it waits are applied.
+    // None where it waits for fewer.
     fn rewrite(&mut self, course: &Course, text: &str) -> Option<Put>
         ensures { IfSome result (MayPut course.now) }
     {
-        let (table, rest) = first_word(text);
-        let (partition, rest) = first_word(rest);
-        let (first, count) = first_word(rest);
-        let table = self.table_of(table);
-        let partition = self.partition_of(partition);
-        let first = usize::from(self.small_of(first));
-        let mutations = usize::from(self.small_of(count));
-        let sources = Sources {
-            table,
-            partition,
-            first,
-            count: 1,
-        };
+        let mut sources = self.parts_asked(text);
+        let mutations = sources.count;
+        sources.count = 1;
         course.rewrite_of(self.alloc, sources, mutations).ok()?
     }
 

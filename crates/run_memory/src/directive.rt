@@ -63,6 +63,7 @@ impl Bench {
             "random" => self.answer.random(rest),
             "grow" => self.answer.grow(&self.script, rest),
             "append" => self.answer.append(rest),
+            "stream" => self.answer.stream(&self.script, rest),
             _ => return false,
         }
         self.answer.put("\n");

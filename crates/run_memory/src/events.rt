@@ -5,13 +5,13 @@ ghost use Rattle.mt_values.specs.declared.value.ColType.TheVariants as types;
 ghost use Rattle.mt_values.specs.declared.value.Value.TheVariants as value;
 ghost use Rattle.table_core.specs.mt_model.History.{IsInsertInto};
 ghost use Rattle.table_core.specs.mt_model.Mutations.{IsChangeOf};
-ghost use Rattle.run_memory.specs.Events.{Fits, FitsAccept, FitsCrash, begins_with, event_schema, of_lasts, of_numbers, of_pairs, of_sums, parted};
+ghost use Rattle.run_memory.specs.Events.{Fits, FitsAccept, FitsCrash, begins_with, event_schema, keyed, of_lasts, of_numbers, of_pairs, of_sums, parted};
 
 use crate::answer::Answer;
-use crate::changes::may_have;
 use crate::marks::{Numbers, marked_insert, marked_schema};
 use crate::text::first_word;
 use mt_base::{DEFAULT_GRANULARITY, NoMemory, Partition, Seq};
+use mt_plain::is_change_of;
 use mt_values::{
     Alter, Block, ColType, Column, Command, Create, Engine, Entry, Insert, Name, Row, Schema, Value,
 };
@@ -49,21 +49,34 @@ pub fn key_of(alloc: Global, place: u32) -> Result<Seq<u32>, NoMemory>
     Ok(key)
 }
 
+/// The schema of a table with these columns, of which the one at a place is the key, an engine, and the column of its partitions.
+pub fn keyed(
+    alloc: Global,
+    columns: Seq<Column>,
+    engine: Engine,
+    place: u32,
+    partition: Option<u32>,
+) -> Result<Schema, NoMemory>
+    ensures { IfOk result (λ schema. schema ≡ keyed columns engine place partition) }
+{
+    Ok(Schema {
+        columns,
+        engine,
+        key: key_of(alloc, place)?,
+        primary: key_of(alloc, place)?,
+        partition,
+        granularity: DEFAULT_GRANULARITY,
+        indexes: Seq::new(alloc),
+    })
+}
+
 /// The schema of a table of the events that has one partition: a column `a` of type UInt8, which is the key.
 pub fn numbers_schema(alloc: Global) -> Result<Schema, NoMemory>
     ensures { IfOk result (λ schema. schema ≡ of_numbers) }
 {
     let mut columns = Seq::new(alloc);
     columns.push(number_column(alloc, b'a')?)?;
-    Ok(Schema {
-        columns,
-        engine: Engine::Plain,
-        key: key_of(alloc, 0)?,
-        primary: key_of(alloc, 0)?,
-        partition: None,
-        granularity: DEFAULT_GRANULARITY,
-        indexes: Seq::new(alloc),
-    })
+    keyed(alloc, columns, Engine::Plain, 0, None)
 }
 
 // The schema of a table of the events that has several: columns `p` and `a` of type UInt8, which are the partition column and the key.
@@ -73,15 +86,7 @@ fn parted_schema(alloc: Global) -> Result<Schema, NoMemory>
     let mut columns = Seq::new(alloc);
     columns.push(number_column(alloc, b'p')?)?;
     columns.push(number_column(alloc, b'a')?)?;
-    Ok(Schema {
-        columns,
-        engine: Engine::Plain,
-        key: key_of(alloc, 1)?,
-        primary: key_of(alloc, 1)?,
-        partition: Some(0),
-        granularity: DEFAULT_GRANULARITY,
-        indexes: Seq::new(alloc),
-    })
+    keyed(alloc, columns, Engine::Plain, 1, Some(0))
 }
 
 // The schema of a table of the events whose rows have a value: columns `a` and `b` of type UInt8, of which the first is the key, and an
@@ -92,15 +97,7 @@ fn pairs_schema(alloc: Global, engine: Engine) -> Result<Schema, NoMemory>
     let mut columns = Seq::new(alloc);
     columns.push(number_column(alloc, b'a')?)?;
     columns.push(number_column(alloc, b'b')?)?;
-    Ok(Schema {
-        columns,
-        engine,
-        key: key_of(alloc, 0)?,
-        primary: key_of(alloc, 0)?,
-        partition: None,
-        granularity: DEFAULT_GRANULARITY,
-        indexes: Seq::new(alloc),
-    })
+    keyed(alloc, columns, engine, 0, None)
 }
 
 /// Whether the name of a table begins with a letter.
@@ -255,7 +252,7 @@ impl Answer {
     {
         let schema = event_schema(self.alloc, &table).ok()?;
         let change = self.row_change(&schema, text)?;
-        if !may_have(&schema, &change) {
+        if !is_change_of(&schema, &change) {
             return None;
         }
         Some(Alter { table, change })

@@ -17,7 +17,7 @@ use row_merge::part_writer::{Broken, PartOut, SealedPart, content_count, write_p
 use std::alloc::Global;
 
 /// A sealed stage of the disk in memory.
-type Filled = Result<Sealed<MemStage>, DiskError>;
+pub type Filled = Result<Sealed<MemStage>, DiskError>;
 
 // Whether more values of a block may be kept than 32 bits count.
 fn is_large(kind: IndexKind) -> bool
@@ -46,8 +46,8 @@ fn has_blocks(schema: &Schema, index: &SkipIndex) -> bool
     true
 }
 
-// Whether each skip index is so.
-fn all_have_blocks(schema: &Schema) -> bool
+/// Whether each skip index is of a column of the table, and has blocks.
+pub fn all_have_blocks(schema: &Schema) -> bool
     ensures { IsTrue result → All (HasBlocks schema.now) schema.now.indexes }
 {
     for index in schema.indexes.as_slice() {
@@ -58,13 +58,12 @@ fn all_have_blocks(schema: &Schema) -> bool
     true
 }
 
-// Whether the columns of the primary key are columns of the table.
-fn has_keys(schema: &Schema) -> bool
-    ensures { IsTrue result
-        → All (λ place. place < length schema.now.columns) schema.now.primary }
+/// Whether all places are those of columns of the table.
+pub fn are_columns(schema: &Schema, places: &[u32]) -> bool
+    ensures { IsTrue result → All (λ place. place < length schema.now.columns) places.now }
 {
     let width = schema.columns.len();
-    for place in schema.primary.as_slice() {
+    for place in places {
         if width <= *place as usize {
             return false;
         }
@@ -72,8 +71,8 @@ fn has_keys(schema: &Schema) -> bool
     true
 }
 
-// Whether parts of the table can be written, which no clause says of a script's table.
-fn has_parts(schema: &Schema) -> bool
+/// Whether parts of the table can be written, which no clause says of a script's table.
+pub fn has_parts(schema: &Schema) -> bool
     ensures { IsTrue result → HasParts schema.now }
 {
     let keys = schema.primary.len();
@@ -87,7 +86,7 @@ fn has_parts(schema: &Schema) -> bool
     if files > u32::MAX as usize {
         return false;
     }
-    if !has_keys(schema) {
+    if !are_columns(schema, schema.primary.as_slice()) {
         return false;
     }
     if !all_have_blocks(schema) {
@@ -230,8 +229,13 @@ fn stage_of_pieces(alloc: Global, arm: &mut MemArm, pieces: &[(FileId, Vec<u8>)]
     }
 }
 
-// The folder of a sealed stage, as a disk without names has it under a name.
-fn published(alloc: Global, disk: MemDisk, arm: MemArm, filled: Filled) -> Result<MemDir, DiskError>
+/// The folder of a sealed stage, as a disk without names has it under a name.
+pub fn published(
+    alloc: Global,
+    disk: MemDisk,
+    arm: MemArm,
+    filled: Filled,
+) -> Result<MemDir, DiskError>
     requires { disk.told ≡ [] }
 {
     let mut disk = disk;
@@ -279,8 +283,8 @@ fn folder_of_part(
     published(alloc, disk, arm, filled)
 }
 
-// Whether two folders have the same files, each synced.
-fn are_alike(a: &[Written], b: &[Written]) -> bool {
+/// Whether two folders have the same files, each synced.
+pub fn are_alike(a: &[Written], b: &[Written]) -> bool {
     if a.len() != b.len() {
         return false;
     }
@@ -303,8 +307,8 @@ impl Answer {
         dir.ok()
     }
 
-    // The rows of a table that lines are.
-    fn rows_read(&mut self, schema: &Schema, lines: &[u8]) -> Option<Block>
+    /// The rows of a table that lines are.
+    pub fn rows_read(&mut self, schema: &Schema, lines: &[u8]) -> Option<Block>
         ensures { IfSome result (λ b. b.types ≡ column_types schema.now) }
     {
         let Ok(types) = schema.types(self.alloc) else {

@@ -5,8 +5,8 @@ ghost use Rattle.mt_values.specs.declared.value.Value.TheVariants as value;
 ghost use Rattle.table_core.specs.mt_model.History.{IsInsertInto};
 ghost use Rattle.run_memory.specs.Events.{marked_schema, of_greatest, of_marked_sums, of_marks, of_newest, of_signs, of_triples, of_versions};
 
-use crate::events::{begins_with, column, key_of, number_row, numbers_schema, whole_insert};
-use mt_base::{DEFAULT_GRANULARITY, NoMemory, Partition, Seq};
+use crate::events::{begins_with, column, key_of, keyed, number_row, numbers_schema, whole_insert};
+use mt_base::{NoMemory, Partition, Seq};
 use mt_values::{Aggregate, Block, ColType, Column, Engine, Insert, Name, Row, Schema, Value};
 use std::alloc::Global;
 
@@ -27,15 +27,7 @@ fn marks_schema(alloc: Global, engine: Engine, middle: Column) -> Result<Schema,
     columns.push(column(alloc, b'a', ColType::UInt8)?)?;
     columns.push(middle)?;
     columns.push(column(alloc, b'c', ColType::UInt8)?)?;
-    Ok(Schema {
-        columns,
-        engine,
-        key: key_of(alloc, 0)?,
-        primary: key_of(alloc, 0)?,
-        partition: None,
-        granularity: DEFAULT_GRANULARITY,
-        indexes: Seq::new(alloc),
-    })
+    keyed(alloc, columns, engine, 0, None)
 }
 
 // The schema of one whose rows are cancelled by version: columns `a`, which is the key, `b`, the version, `c` and the sign `s`.
@@ -47,18 +39,11 @@ fn versions_schema(alloc: Global) -> Result<Schema, NoMemory>
     columns.push(column(alloc, b'b', ColType::UInt8)?)?;
     columns.push(column(alloc, b'c', ColType::UInt8)?)?;
     columns.push(column(alloc, b's', ColType::Int8)?)?;
-    Ok(Schema {
-        columns,
-        engine: Engine::Versioned {
-            sign: 3,
-            version: 1,
-        },
-        key: key_of(alloc, 0)?,
-        primary: key_of(alloc, 0)?,
-        partition: None,
-        granularity: DEFAULT_GRANULARITY,
-        indexes: Seq::new(alloc),
-    })
+    let engine = Engine::Versioned {
+        sign: 3,
+        version: 1,
+    };
+    keyed(alloc, columns, engine, 0, None)
 }
 
 // The schema of one whose rows are cancelled by their signs.

@@ -60,8 +60,8 @@ fn are_once(table: &Name, parts: &[CorePart], history: &[Entry]) -> bool {
     true
 }
 
-// Whether this number of a table is an INSERT's into a partition.
-fn is_insert(table: &Name, history: &[Entry], partition: Partition, wanted: u32) -> bool {
+// What draws this number of a table; nothing where none does.
+fn drawn_at<'a>(table: &Name, history: &'a [Entry], wanted: u32) -> Drawn<'a> {
     let mut number = 0u64;
     for entry in history {
         let here = what_draws(table, entry);
@@ -70,32 +70,26 @@ fn is_insert(table: &Name, history: &[Entry], partition: Partition, wanted: u32)
         }
         number = number.saturating_add(1);
         if number == u64::from(wanted) {
-            return match here {
-                Drawn::Insert(insert) => same_partition(insert.partition, partition),
-                _ => false,
-            };
+            return here;
         }
     }
-    false
+    Drawn::Nothing
+}
+
+// Whether this number of a table is an INSERT's into a partition.
+fn is_insert(table: &Name, history: &[Entry], partition: Partition, wanted: u32) -> bool {
+    match drawn_at(table, history, wanted) {
+        Drawn::Insert(insert) => same_partition(insert.partition, partition),
+        _ => false,
+    }
 }
 
 // Whether this number of a table is a mutation's.
 fn is_mutation(table: &Name, history: &[Entry], wanted: u32) -> bool {
-    let mut number = 0u64;
-    for entry in history {
-        let here = what_draws(table, entry);
-        if let Drawn::Nothing = here {
-            continue;
-        }
-        number = number.saturating_add(1);
-        if number == u64::from(wanted) {
-            return match here {
-                Drawn::Alter(_) => true,
-                _ => false,
-            };
-        }
+    match drawn_at(table, history, wanted) {
+        Drawn::Alter(_) => true,
+        _ => false,
     }
-    false
 }
 
 // Adds copies of rows.

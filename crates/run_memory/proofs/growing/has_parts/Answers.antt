@@ -1,4 +1,4 @@
-use Rattle.std.proofs.Common.{arith}
+use Rattle.std.proofs.Common.{◌<◌, All, arith, length, subst}
 use Rattle.row_merge.specs.part_reader.skip_index.Blocks.{no_index}
 use Rattle.run_memory.proofs.growing.has_parts.Goals as goal
 
@@ -6,7 +6,7 @@ pub returns : goal.returns
 returns c = λ told. record {
   marks = record {
     some = omega (arith, c.len-keys.ensures);
-    own = c.has_keys.ensures c.if-not-has_keys.false;
+    own = subst (All (λ place. place < length c.args.schema.now.columns)) c.as_slice.ensures (c.are_columns.ensures c.if-not-are_columns.false);
     granularity = omega arith;
   };
   indexes = λ n below.
