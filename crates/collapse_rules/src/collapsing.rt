@@ -7,7 +7,6 @@ ghost use Rattle.mt_values.specs.Order.{key_of};
 ghost use Rattle.collapse_rules.specs.Counted.{IsCounted};
 ghost use Rattle.rule_law.proofs.Alternating.{collapsing_law};
 ghost use Rattle.rule_law.proofs.Kept.{collapsing_keeps};
-ghost use Rattle.rule_law.proofs.RuleChanged.{rule_stays};
 
 use crate::signs::is_state;
 use mt_base::{NoMemory, Twin};
@@ -64,8 +63,6 @@ impl RowRule for CollapsingRule {
     ghost functions = { λ rule. [] };
 
     ghost runs = { λ rule rows out. (λ run. run, λ run. run) };
-
-    ghost mutates = { λ rule. rule_stays (engine.Collapsing rule.sign) [] };
 
     fn begin(&self, alloc: Global, row: &Row) -> Result<Counted, NoMemory> {
         let mut counted = Counted {

@@ -7,3 +7,6 @@ mod versioned;
 
 pub use collapsing::{CollapsingRule, Counted};
 pub use versioned::VersionedRule;
+
+#[cfg(test)]
+mod tests;

@@ -5,7 +5,6 @@ ghost use Rattle.mt_values.specs.declared.engine.Engine.TheVariants as engine;
 ghost use Rattle.mt_values.specs.Order.{key_of};
 ghost use Rattle.mt_values.specs.Values.{types_of};
 ghost use Rattle.rule_law.proofs.Kept.{versioned_keeps};
-ghost use Rattle.rule_law.proofs.RuleChanged.{rule_stays};
 ghost use Rattle.rule_law.proofs.OneSign.{versioned_law};
 
 use crate::signs::is_state;
@@ -51,8 +50,6 @@ impl RowRule for VersionedRule {
     ghost functions = { λ rule. [] };
 
     ghost runs = { λ rule rows out. (λ run. run, λ run. run) };
-
-    ghost mutates = { λ rule. rule_stays (engine.Versioned rule.sign rule.version) [] };
 
     #[tactic(auto, using(crate::proofs::Pairs::one_left))]
     fn begin(&self, alloc: Global, row: &Row) -> Result<Vec<Row>, NoMemory> {

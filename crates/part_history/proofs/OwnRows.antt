@@ -64,11 +64,13 @@ module _ (h : History) (legal : IsLegal h) where
       comes_none (TableRun s.schema) (of_key s.schema w row part.rows)
       (subst (λ (rows : List Row). ComesFrom (TableRun s.schema) rows (of_key s.schema w row part.rows)) none (s.stands.partly w row))
 
+  pub part_own : (part : CorePart) → PartStands h part → (schema : Schema) → schema_of part.table h ≡ Some schema → All (λ (r : Row). partition_of schema r ≡ part.name.partition) part.rows
+  part_own part s schema there =
+      let same : s.schema ≡ schema = same_schema s.schema schema (sym s.there ∙ there) in
+      subst (λ (x : Schema). All (λ (r : Row). partition_of x r ≡ part.name.partition) part.rows) same
+      (All-from_recursion (λ (r : Row). partition_of s.schema r ≡ part.name.partition) part.rows (all_own s.schema part.name.partition part.rows (none_apart part s)))
+
   pub own_rows : (table : List ℕ) (schema : Schema) (parts : List CorePart) → schema_of table h ≡ Some schema → TableStands table parts h
       → All (λ (p : CorePart). All (λ (r : Row). partition_of schema r ≡ p.name.partition) p.rows) parts
   own_rows table schema parts there stands = λ k d within.
-      let p = get_or parts k d in
-      let s = stands.each k d within in
-      let same : s.schema ≡ schema = same_schema s.schema schema (sym s.there ∙ (ap (λ t. schema_of t h) (stands.own k d within) ∙ there)) in
-      subst (λ (x : Schema). All (λ (r : Row). partition_of x r ≡ p.name.partition) p.rows) same
-      (All-from_recursion (λ (r : Row). partition_of s.schema r ≡ p.name.partition) p.rows (all_own s.schema p.name.partition p.rows (none_apart p s)))
+      part_own (get_or parts k d) (stands.each k d within) schema (ap (λ t. schema_of t h) (stands.own k d within) ∙ there)

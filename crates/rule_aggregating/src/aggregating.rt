@@ -4,7 +4,6 @@ ghost use Rattle.rule_law.specs.mt_model.Rules.{AreAggregatesFrom, Folds, Run};
 ghost use Rattle.mt_values.specs.Values.{types_of};
 ghost use Rattle.mt_values.specs.declared.engine.Engine.TheVariants as engine;
 ghost use Rattle.rule_law.proofs.Aggregated.{aggregating_keeps, aggregating_law, aggregating_stays};
-ghost use Rattle.rule_law.proofs.RuleChanged.{rule_stays};
 
 use crate::folding::{fold_row, read_number};
 use mt_base::{NoMemory, Seq, Twin};
@@ -50,8 +49,6 @@ impl RowRule for AggregatingRule {
     ghost functions = { λ rule. rule.functions };
 
     ghost runs = { λ rule rows out. (λ run. run, λ run. run) };
-
-    ghost mutates = { λ rule. rule_stays engine.Aggregating rule.functions };
 
     fn begin(&self, alloc: Global, row: &Row) -> Result<Vec<Value>, NoMemory> {
         // Reading each number shows that it is in its type's range.

@@ -7,3 +7,6 @@ mod worked;
 
 pub use aggregating::AggregatingRule;
 pub use worked::{bits_are_worked, rows_are_worked};
+
+#[cfg(test)]
+mod tests;

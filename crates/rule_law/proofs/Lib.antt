@@ -16,7 +16,6 @@ pub mod OneSum
 pub mod PartlyChanged
 pub mod PartlyRows
 pub mod Ranges
-pub mod RuleChanged
 pub mod Summed
 pub mod TableRows
 pub use Rattle.mt_model.proofs.Commands as MtModelCommands

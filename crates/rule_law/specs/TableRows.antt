@@ -1,8 +1,6 @@
 -- Rows of a table, as merges take them (docs/engines.md, "Merges").
-use Rattle.std.specs.Prelude.{◌≡◌, true, List, All, Option}
-use Rattle.mt_values.specs.declared.engine.Aggregate.{Aggregate}
+use Rattle.std.specs.Prelude.{◌≡◌, true, List, All}
 use Rattle.mt_values.specs.declared.engine.Engine.{Engine}
-use Rattle.mt_values.specs.declared.engine.Engine.TheVariants as engine
 use Rattle.mt_values.specs.declared.schema.Schema.{Schema}
 use Rattle.mt_values.specs.declared.value.ColType.{ColType}
 use Rattle.mt_values.specs.declared.value.Value.{Value}
@@ -10,7 +8,6 @@ use Rattle.mt_values.specs.declared.value.Value.TheVariants as value
 use Rattle.mt_values.specs.Engines.{keeps_sign, sign_place}
 use Rattle.mt_values.specs.Schemas.{column_types}
 use Rattle.mt_values.specs.Values.{FitsType, Row, types_of}
-use Rattle.mt_model.specs.Partial.{functions_of}
 
 -- any value, for places past the end of a row
 abbrev pub any_value : Value
@@ -25,8 +22,3 @@ pub record IsRowOf (engine : Engine) (types : List ColType) (row : Row) : Type 0
 -- a row of the table: it has a value of each column's type, and keeps to what the engine asks of rows (docs/engines.md, "Columns")
 abbrev pub IsTableRow : Schema → Row → Type 0
 IsTableRow schema row = IsRowOf schema.engine (column_types schema) row
-
--- the table has this engine, and where the engine folds by the functions of columns, these functions (docs/engines.md, "Mutations")
-abbrev pub IsTableOf : Engine → List (Option Aggregate) → Schema → Type 0
-IsTableOf engine.Aggregating functions schema = (schema.engine ≡ engine.Aggregating) × (functions_of schema ≡ functions)
-IsTableOf e functions schema = schema.engine ≡ e

@@ -16,7 +16,7 @@ ghost use Rattle.mt_values.specs.declared.schema.Schema.{Schema};
 ghost use Rattle.mt_values.specs.declared.value.ColType.{ColType};
 ghost use Rattle.mt_values.specs.declared.value.Value.{Value};
 ghost use Rattle.rule_law.specs.Changes.{StaysLeft};
-ghost use Rattle.rule_law.specs.TableRows.{IsTableOf, IsTableRow};
+ghost use Rattle.rule_law.specs.TableRows.{IsTableRow};
 
 use mt_base::NoMemory;
 use mt_values::{Block, Row};
@@ -107,13 +107,4 @@ pub trait RowRule {
     /// What one merge may leave is what the engine's definition lets it leave.
     ghost runs: { (rule : Self) (rows out : List Row)
         → run rule rows out ↔ Run (engine_of rule) (functions rule) rows out };
-
-    /// A change that the rows of a table of the engine may have makes of rows of one key, and of what is left of them, rows and what
-    /// the rule may leave of these; or it leaves no row on either side. So it may be made before or after merges.
-    ghost mutates: { (rule : Self) (schema : Schema) (c : Change) (key : List Value)
-        (rows out : List Row) → IsTableOf (engine_of rule) (functions rule) schema
-        → IsTableSchema schema → IsChangeOf schema c
-        → 0 < length rows → All (IsTableRow schema) rows
-        → All (λ r. key_of (sorting_columns schema) r ≡ key) rows → run rule rows out
-        → StaysLeft (run rule) c rows out };
 }

@@ -7,3 +7,6 @@ mod replacing;
 pub use plain::PlainRule;
 pub use replacing::ReplacingRule;
 pub use rule_law;
+
+#[cfg(test)]
+mod tests;

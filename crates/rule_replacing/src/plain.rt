@@ -6,7 +6,6 @@ ghost use Rattle.mt_values.specs.Order.{key_of};
 ghost use Rattle.mt_values.specs.Values.{types_of};
 ghost use Rattle.rule_law.proofs.AllRows.{plain_law};
 ghost use Rattle.rule_law.proofs.Kept.{plain_keeps};
-ghost use Rattle.rule_law.proofs.RuleChanged.{rule_stays};
 
 use mt_base::{NoMemory, Twin};
 use mt_values::{Block, Row};
@@ -41,8 +40,6 @@ impl RowRule for PlainRule {
     ghost functions = { λ rule. [] };
 
     ghost runs = { λ rule rows out. (λ run. run, λ run. run) };
-
-    ghost mutates = { λ rule. rule_stays engine.Plain [] };
 
     fn begin(&self, alloc: Global, row: &Row) -> Result<Vec<Row>, NoMemory> {
         let mut kept = Vec::new(alloc);

@@ -7,7 +7,6 @@ ghost use Rattle.mt_values.specs.Order.{key_of};
 ghost use Rattle.mt_values.specs.Values.{types_of};
 ghost use Rattle.rule_replacing.specs.Replaced.{replaces};
 ghost use Rattle.rule_law.proofs.Kept.{replacing_keeps};
-ghost use Rattle.rule_law.proofs.RuleChanged.{rule_stays};
 ghost use Rattle.rule_law.proofs.OneRow.{replacing_law};
 
 use mt_base::{NoMemory, Twin};
@@ -46,8 +45,6 @@ impl RowRule for ReplacingRule {
     ghost functions = { λ rule. [] };
 
     ghost runs = { λ rule rows out. (λ run. run, λ run. run) };
-
-    ghost mutates = { λ rule. rule_stays (engine.Replacing rule.version) [] };
 
     #[tactic(auto, using(crate::proofs::KeptRow::kept_first))]
     fn begin(&self, alloc: Global, row: &Row) -> Result<Row, NoMemory> {

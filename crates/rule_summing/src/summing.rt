@@ -3,7 +3,6 @@ ghost use Rattle.std.specs.Prelude.{◌≡◌, [], All, false};
 ghost use Rattle.rule_law.specs.mt_model.Rules.{Folds, Run, is_one_of};
 ghost use Rattle.mt_values.specs.Values.{types_of};
 ghost use Rattle.mt_values.specs.declared.engine.Engine.TheVariants as engine;
-ghost use Rattle.rule_law.proofs.RuleChanged.{rule_stays};
 ghost use Rattle.rule_law.proofs.OneSum.{summing_keeps, summing_law, summing_types};
 ghost use Rattle.rule_summing.specs.Summed.{HasSums};
 
@@ -52,8 +51,6 @@ impl RowRule for SummingRule {
     ghost functions = { λ rule. [] };
 
     ghost runs = { λ rule rows out. (λ run. run, λ run. run) };
-
-    ghost mutates = { λ rule. rule_stays (engine.Summing rule.places) [] };
 
     // The first row's numbers are added as those of the others are: to the sums of no rows.
     fn begin(&self, alloc: Global, row: &Row) -> Result<Vec<Value>, NoMemory> {
