@@ -14,6 +14,7 @@ use crate::reading::{Part, PartFault};
 use crate::runs::{Run, add_run, decode, place_of, row_count, span_of, unplaced};
 use mt_outside::Arm;
 use mt_values::{ColumnData, FileId, Schema};
+use part_damage::part_writer::Loaded;
 use std::alloc::Global;
 
 /// A part of which chosen granules are read, one after another.
@@ -102,7 +103,7 @@ pub fn add_granule<R: Arm>(
         (lone granule) column.old.col_type) }
     ensures arm { LeavesArm R.Arm arm.old arm.new (IsErrOf result PartFault.Fault) }
 {
-    let loaded = &source.part.loaded;
+    let loaded: &Loaded = &source.part.loaded;
     let run = Run {
         first: granule,
         count: 1,

@@ -54,8 +54,9 @@ pub fn check_part<R: Arm>(alloc: Global, part: &Part<R::Dir>, arm: &mut R) -> Re
     // What the arm is then, and its count of faults.
     ensures arm { LeavesArm R.Arm arm.old arm.new (IsErrOf result PartFault.Fault) }
 {
-    let schema = &part.loaded.schema;
-    let mut agreed = shape(&part.loaded, schema);
+    let loaded: &Loaded = &part.loaded;
+    let schema = &loaded.schema;
+    let mut agreed = shape(loaded, schema);
     for place in 0..content_count(schema) {
         // No file has a place past these.
         if place > u32::MAX as usize {
@@ -64,11 +65,11 @@ pub fn check_part<R: Arm>(alloc: Global, part: &Part<R::Dir>, arm: &mut R) -> Re
         let Some(file) = content_file(schema, place as u32) else {
             unreachable!()
         };
-        agreed = agreed.and(check_file(alloc, part, schema, file, arm)?);
+        agreed = agreed.and(check_file(alloc, &part.dir, loaded, file, arm)?);
     }
     match agreed.unlike() {
         None => Ok(()),
-        Some(file) => Err(unlike_rows(schema, &part.loaded.manifest, file)),
+        Some(file) => Err(unlike_rows(schema, &loaded.manifest, file)),
     }
 }
 
@@ -77,24 +78,25 @@ pub fn check_part<R: Arm>(alloc: Global, part: &Part<R::Dir>, arm: &mut R) -> Re
 /// `Damaged` where it has not, or spells no such values; else as `check_part`.
 fn check_file<R: Arm>(
     alloc: Global,
-    part: &Part<R::Dir>,
-    schema: &Schema,
+    dir: &R::Dir,
+    loaded: &Loaded,
     file: FileId,
     arm: &mut R,
 ) -> Result<Agreement, PartFault>
-    requires marks { HasMarks schema.now }
-    requires indexes { HasIndexes schema.now }
-    requires content { IsContent schema.now file }
-    ensures compared { IfOk result (λ agreed. IsReadAs (R.Dir.files part.now.dir) file
-        (λ bytes. IsCompared schema.now part.now.loaded file bytes agreed)) }
-    ensures damaged { IfErr result (ExplainsFile (R.Dir.files part.now.dir)
-        (mark_for schema.now part.now.loaded.manifest file) file
-        (GoesWrongAlone schema.now part.now.loaded.manifest.rows file)) }
+    requires marks { HasMarks loaded.now.schema }
+    requires indexes { HasIndexes loaded.now.schema }
+    requires content { IsContent loaded.now.schema file }
+    ensures compared { IfOk result (λ agreed. IsReadAs (R.Dir.files dir.now) file
+        (λ bytes. IsCompared loaded.now.schema loaded.now file bytes agreed)) }
+    ensures damaged { IfErr result (ExplainsFile (R.Dir.files dir.now)
+        (mark_for loaded.now.schema loaded.now.manifest file) file
+        (GoesWrongAlone loaded.now.schema loaded.now.manifest.rows file)) }
     ensures arm { LeavesArm R.Arm arm.old arm.new (IsErrOf result PartFault.Fault) }
 {
-    let marked = mark_at(schema, &part.loaded.manifest, file);
-    let bytes = read_marked(alloc, arm, &part.dir, file, marked)?;
-    check_bytes(alloc, &part.loaded, schema, file, &bytes)
+    let schema = &loaded.schema;
+    let marked = mark_at(schema, &loaded.manifest, file);
+    let bytes = read_marked(alloc, arm, dir, file, marked)?;
+    check_bytes(alloc, loaded, schema, file, &bytes)
 }
 
 /// Whether what is kept of a part is that of the bytes of a file, which have its mark and of a column spell as many values as the part

@@ -25,7 +25,7 @@ use mt_outside::Arm;
 use mt_values::{FileId, Manifest, Schema};
 use part_damage::column_file::FormatFault;
 use part_damage::digest_file::{mark_of, read_manifest};
-use part_damage::part_writer::{Loaded, content_count};
+use part_damage::part_writer::{Loaded, SharedLoaded, content_count};
 use part_damage::primary_marks::{Marks, Places, read, read_places};
 use part_damage::skip_index::{Index, read as read_index};
 use std::alloc::Global;
@@ -80,6 +80,9 @@ pub fn open_part<R: Arm>(
         marks,
         places,
         indexes,
+    };
+    let Ok(loaded) = SharedLoaded::of(alloc, loaded) else {
+        return Err(PartFault::NoMemory);
     };
     Ok(Part::of(dir, loaded))
 }

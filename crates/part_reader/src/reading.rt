@@ -16,7 +16,7 @@ use crate::marked::misread;
 use mt_outside::{Arm, DiskError};
 use mt_values::{ColumnData, FileId, FileMark, Rows};
 use part_damage::column_file::decode_onto;
-use part_damage::part_writer::Loaded;
+use part_damage::part_writer::{Loaded, SharedLoaded};
 use std::alloc::{AllocError, Global};
 use thiserror::Error;
 
@@ -24,12 +24,12 @@ use thiserror::Error;
 #[derive(Drop)]
 pub struct Part<F> {
     pub dir: F,
-    pub loaded: Loaded,
+    pub loaded: SharedLoaded,
 }
 
 impl<F> Part<F> {
     /// The part with this folder, of which this is kept. Takes no memory.
-    pub fn of(dir: F, loaded: Loaded) -> Self
+    pub fn of(dir: F, loaded: SharedLoaded) -> Self
         ensures dir { result.dir ≡ dir }
         ensures loaded { result.loaded ≡ loaded }
     {
@@ -156,7 +156,7 @@ fn read_column<R: Arm>(
         part.now.loaded number column.old.col_type) }
     ensures arm { LeavesArm R.Arm arm.old arm.new (IsErrOf result PartFault.Fault) }
 {
-    let loaded = &part.loaded;
+    let loaded: &Loaded = &part.loaded;
     let file = FileId::Column(number);
     let bytes = read_file(alloc, arm, &part.dir, file)?;
     match decode_onto(column, &bytes, loaded.manifest.rows as usize) {

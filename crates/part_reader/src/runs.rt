@@ -49,7 +49,7 @@ pub fn add_run<R: Arm>(
     if run.count == 0 {
         return Ok(());
     }
-    let loaded = &part.loaded;
+    let loaded: &Loaded = &part.loaded;
     let Some(span) = span_of(&loaded.places, number, run) else {
         return Err(unplaced(loaded));
     };

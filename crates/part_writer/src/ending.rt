@@ -13,7 +13,7 @@ ghost use Rattle.part_writer.specs.PartFiles.{all_synced, files_of_part, loaded_
 
 use crate::column_out::take_columns;
 use crate::grown::Grown;
-use crate::loaded::Loaded;
+use crate::loaded::{Loaded, SharedLoaded};
 use crate::opened::{spell_opened, take_marks, write_opened};
 use digest_file::manifest_bytes;
 use mt_base::{Seq, Twin};
@@ -30,7 +30,7 @@ pub(crate) fn write_rest<S: Stage>(
     alloc: Global,
     stage: &mut Open<S>,
     grown: &mut Grown,
-) -> Result<Loaded, DiskError>
+) -> Result<SharedLoaded, DiskError>
     requires { HasAll stage.old grown.old }
 
     // What is written, and why it failed.
@@ -57,11 +57,12 @@ pub(crate) fn write_rest<S: Stage>(
     let manifest = Manifest { rows, files };
     let bytes = manifest_bytes(alloc, &manifest)?;
     write_file(stage, FileId::Manifest, &bytes)?;
-    Ok(Loaded {
+    let loaded = Loaded {
         schema,
         manifest,
         marks,
         places,
         indexes,
-    })
+    };
+    Ok(SharedLoaded::of(alloc, loaded)?)
 }

@@ -16,7 +16,7 @@ mod writing;
 pub use content::{content_count, content_file};
 pub use digest_file;
 pub use laws::content_is_one_list;
-pub use loaded::Loaded;
+pub use loaded::{Loaded, SharedLoaded};
 pub use part_out::{Broken, PartOut};
 pub use primary_marks;
 pub use primary_marks::{column_file, predicate};

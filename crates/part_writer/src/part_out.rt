@@ -22,7 +22,7 @@ ghost use Rattle.part_writer.specs.PartFiles.{all_synced, content_ids, files_of_
 use crate::content::{content_count, content_file};
 use crate::ending::write_rest;
 use crate::grown::Grown;
-use crate::loaded::Loaded;
+use crate::loaded::SharedLoaded;
 use crate::writing::SealedPart;
 use mt_outside::{Arm, DiskError, Stage};
 use mt_values::{Block, Row, Schema, all_places};
@@ -264,7 +264,7 @@ impl<R: Arm> PartOut<R> {
     /// Writes all that is not written yet, last the manifest; what is kept of the part is handed back.
     ///
     /// After an error the part can only be given up.
-    fn complete(&mut self) -> Result<Loaded, DiskError>
+    fn complete(&mut self) -> Result<SharedLoaded, DiskError>
         requires { IsWhole self.old }
 
         // What is written, and why it failed.

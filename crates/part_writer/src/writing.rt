@@ -12,7 +12,7 @@ ghost use Rattle.primary_marks.specs.Keys.{HasMarks};
 ghost use Rattle.part_writer.specs.Growing.{HasRows, IsWhole};
 ghost use Rattle.part_writer.specs.PartFiles.{HasIndexes, all_synced, content_ids, files_of_part, loaded_of};
 
-use crate::loaded::Loaded;
+use crate::loaded::SharedLoaded;
 use crate::part_out::{Broken, PartOut};
 use mt_outside::{Arm, DiskError, Stage};
 use mt_values::{Block, Schema};
@@ -22,7 +22,7 @@ use std::alloc::Global;
 /// The sealed files of a part, and what is kept of them in memory. Its stage must be given back.
 pub struct SealedPart<S: Stage> {
     pub sealed: Sealed<S>,
-    pub loaded: Loaded,
+    pub loaded: SharedLoaded,
 }
 
 /// The files of the block's rows in this order, sealed, and what is kept of them in memory.

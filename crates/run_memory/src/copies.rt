@@ -12,7 +12,7 @@ use mt_values::{
 use row_merge::digest_file::mark_of;
 use row_merge::part_reader::Part;
 use row_merge::part_set::{Kept, PartSet, Snap};
-use row_merge::part_writer::Loaded;
+use row_merge::part_writer::{Loaded, SharedLoaded};
 use row_merge::primary_marks::Marks;
 use row_merge::skip_index::Index;
 use std::alloc::Global;
@@ -147,7 +147,7 @@ fn stored_part(alloc: Global, rows: u64, dir: MemDir) -> Result<Part<MemDir>, No
         places,
         indexes,
     };
-    Ok(Part::of(dir, loaded))
+    Ok(Part::of(dir, SharedLoaded::of(alloc, loaded)?))
 }
 
 impl Answer {

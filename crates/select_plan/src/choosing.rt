@@ -156,7 +156,7 @@ fn plan_part<F>(
 ) -> Result<Vec<bool>, NoMemory>
     ensures { IfOk result (λ v. v.items ≡ read_of schema.now is_final condition.now kept.now) }
 {
-    let loaded = &kept.part.loaded;
+    let loaded: &Loaded = &kept.part.loaded;
     if condition.tests().is_empty() {
         return plan_alike(alloc, answers(loaded, is_final), condition);
     }

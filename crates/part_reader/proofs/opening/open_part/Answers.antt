@@ -1,4 +1,4 @@
-use Rattle.std.proofs.Common.{◌≡◌, Some, Option, sym, subst}
+use Rattle.std.proofs.Common.{◌≡◌, ◌∙◌, Some, Option, sym, subst}
 use Rattle.mt_values.specs.declared.manifest.Manifest.{Manifest}
 use Rattle.mt_base.specs.declared.name.FileId.TheVariants as file
 use Rattle.mt_values.specs.declared.schema.Schema.{Schema}
@@ -113,7 +113,7 @@ returns-in_err-indexes-clause-damaged g c =
 
 pub returns-clause-opened : goal.returns-clause-opened
 returns-clause-opened g c =
-    subst (IsOpened (g.R.Dir.Dir.files c.args.dir) c.args.schema.now) (sym c.of.ensures.loaded)
+    subst (IsOpened (g.R.Dir.Dir.files c.args.dir) c.args.schema.now) (sym (c.of-2.ensures.loaded ∙ c.in-Ok-of.ensures))
     (record { schema_is = c.in-Ok.ensures; manifest = c.in_ok-manifest.ensures.read; places = c.in_ok-places.ensures.read; keys = c.in_ok-marks.ensures.read; indexes = c.in_ok-indexes.ensures.read })
 
 -- what was read is what the files say

@@ -1,18 +1,21 @@
 use Rattle.std.proofs.Common.{◌≡◌, ◌≤◌, ◌∷◌, ◌++◌, ℕ, All, Global, List, Vec, ap, ap₂, arith, length, map, subst, sym, ◌∙◌}
 use Rattle.std.specs.Option.{option_map}
 use Rattle.std.proofs.lemmas.List.{length-map, take_all}
+use Rattle.sha2.specs.Sha256.{sha256}
 use Rattle.mt_base.specs.declared.name.FileId.{FileId}
 use Rattle.mt_base.specs.declared.name.FileId.TheVariants as file
 use Rattle.mt_outside.specs.Files.{Files}
 use Rattle.mt_values.specs.declared.manifest.FileMark.{FileMark}
 use Rattle.mt_values.specs.declared.manifest.Manifest.{Manifest}
 use Rattle.mt_values.specs.Granules.{mark_keys, with_final}
+use Rattle.mt_values.specs.Manifests.{manifest_bytes}
 use Rattle.mt_values.specs.Values.{Row}
 use Rattle.digest_file.specs.Spellings.{IsManifestOf}
 use Rattle.primary_marks.specs.column_file.Marks.{granule_places, keys_bytes, places_bytes}
 use Rattle.skip_index.specs.Blocks.{IsCounted, index_bytes}
 use Rattle.skip_index.specs.declared.index.Index.{Index}
 use Rattle.stage_dir.specs.Stages.{has_file}
+use Rattle.part_writer.specs.declared.loaded.Loaded.{Loaded}
 use Rattle.part_writer.specs.Growing.{HasFiles, HasWritten, KeepsColumns}
 use Rattle.part_writer.specs.PartFiles.{all_synced, content_bytes, content_ids, content_of_part, indexes_of, marks_of, opened_ids, with_bytes}
 use Rattle.part_writer.proofs.Contents.{manifest_new, marks_length}
@@ -125,11 +128,12 @@ returns-clause-loaded g c = λ rows has.
     let at = goal.at.returns-clause-loaded g c in
     let opened = opened_are g at.After-as_slice-3 rows has in
     let marks = files_are g at.In_ok-extend rows has opened in
-    loaded_done schema c.in_ok-schema.schema rows (record { rows = c.args.grown.now.rows; files = c.extend.new.self }) c.take_marks-marks.result c.in_ok-places.places c.of-indexes.result
+    c.in_ok-of.ensures ∙ loaded_done schema c.in_ok-schema.schema rows (record { rows = c.args.grown.now.rows; files = c.extend.new.self }) c.take_marks-marks.result c.in_ok-places.places c.of-indexes.result
     c.in_ok-schema.ensures (ap₂ (λ (n : ℕ) (ms : List FileMark). record { rows = n; files = ms }) has.keeps.rows marks)
     (marks_are g at.After-as_slice-3 rows has) (places_are g at.After-as_slice-3 rows has) (indexes_are g at.After-as_slice-3 rows has)
 
 pub returns-clause-readable : goal.returns-clause-readable
 returns-clause-readable g c =
     let manifest : Manifest = record { rows = c.args.grown.now.rows; files = c.extend.new.self } in
-    subst (λ (bytes : List ℕ). IsManifestOf bytes manifest) c.in_ok-bytes.ensures.bytes c.in_ok-bytes.ensures.readable
+    subst (λ (loaded : Loaded). IsManifestOf (manifest_bytes sha256 loaded.manifest) loaded.manifest) (sym c.in_ok-of.ensures)
+    (subst (λ (bytes : List ℕ). IsManifestOf bytes manifest) c.in_ok-bytes.ensures.bytes c.in_ok-bytes.ensures.readable)
