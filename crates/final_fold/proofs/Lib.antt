@@ -27,6 +27,7 @@ pub use Rattle.row_merge.proofs.PartHistoryOrders
 pub use Rattle.row_merge.proofs.PartHistoryOwnRows
 pub use Rattle.row_merge.proofs.PartHistoryPortions
 pub use Rattle.row_merge.proofs.HistoryRows as RowMergeHistoryRows
+pub use Rattle.row_merge.proofs.Sound as RowMergeSound
 pub use Rattle.row_merge.proofs.RuleLawPartlyRows
 pub use Rattle.select_plan.proofs.FoldedMatches as SelectPlanFoldedMatches
 pub use Rattle.select_plan.proofs.Planning as SelectPlanPlanning

@@ -22,7 +22,7 @@ ghost use Rattle.final_fold.specs.Keys.{SaysOfKeys, is_of_key};
 ghost use Rattle.final_fold.specs.Matches.{ExplainsMatches, SayOfEach};
 ghost use Rattle.final_fold.specs.declared.asking.Wanted.{Wanted};
 ghost use Rattle.mt_outside.specs.Files.{Files};
-ghost use Rattle.row_merge.specs.MergedParts.{ExplainsMerge, PartsHold};
+ghost use Rattle.row_merge.specs.MergedParts.{PartsHold};
 ghost use Rattle.row_merge.specs.part_reader.Faults.{IsNoDamage};
 ghost use Rattle.row_merge.specs.part_reader.declared.reading.Part.{Part};
 ghost use Rattle.row_merge.specs.part_reader.declared.reading.PartFault.{PartFault};
@@ -97,8 +97,8 @@ pub fn final_answers_differ_in_free_choices()
         (last_of (of_key schema partition row live)) }
 {}
 
-/// What is told of parts that hold rows of their table is no damage: where columns of chosen granules were read, with FINAL or without it,
-/// and it is said of each granule whether it is chosen; and where the granules of all columns were read one by one.
+/// What is told of parts that hold rows of their table is no damage, where columns of chosen granules were read, with FINAL or without it,
+/// and it is said of each granule whether it is chosen.
 pub fn parts_with_rows_are_not_damaged<F>()
     ensures matches { (files_of : F → Option Files) (w : Wanted) (parts : List (Kept (Part F)))
         (chosen : List (List Bool)) (rows : List (List Row)) (e : PartName × PartFault)
@@ -108,8 +108,4 @@ pub fn parts_with_rows_are_not_damaged<F>()
         (chosen : List (List Bool)) (rows : List (List Row)) (e : PartName × PartFault)
         → PartsHold files_of w.schema.now parts rows → SayOfEach w chosen rows
         → ExplainsFold files_of parts chosen w e → IsNoDamage e.1 }
-    ensures merge { (files_of : F → Option Files) (schema : Schema) (parts : List (Kept (Part F)))
-        (rows : List (List Row)) (e : PartName × PartFault)
-        → PartsHold files_of schema parts rows → ExplainsMerge files_of schema parts e
-        → IsNoDamage e.1 }
 {}

@@ -1,5 +1,5 @@
 -- Rows that are appended one by one to the part that is written.
-use Rattle.std.proofs.Common.{◌≡◌, ℕ, ◌+◌, ◌<◌, ◌≤◌, List, [], ◌∷◌, ◌++◌, length, take, get_or, max, sym, ap, ◌∙◌, subst, append_assoc, arith}
+use Rattle.std.proofs.Common.{◌≡◌, ℕ, ◌+◌, ◌<◌, ◌≤◌, ◌^◌, List, [], ◌∷◌, ◌++◌, length, take, get_or, max, sym, ap, ◌∙◌, subst, append_assoc, arith}
 use Rattle.std.specs.List.{All}
 use Rattle.std.proofs.lemmas.List.{take_more}
 use Rattle.std.proofs.lemmas.List.Elements.{All-get_or}
@@ -20,12 +20,12 @@ holds_at P rows i row below is all = subst P (sym is) (All-get_or P rows i row b
 
 -- ---- what is counted
 
-pub gave_keeps : (n : ℕ) (old new : Held) → old.made ≡ 0 → new ≡ gave n old → KeepsHeld old new
-gave_keeps n old new none is = record {
+pub gave_keeps : (n : ℕ) (old new : Held) → n < 2 ^ 64 → old.made ≡ 0 → new ≡ gave n old → KeepsHeld old new
+gave_keeps n old new few none is = record {
   read = ap (λ (h : Held). h.read) is;
   most = omega (arith, ap (λ (h : Held). h.most_read) is);
   given = subst (λ (h : Held). old.most_given ≤ h.most_given) (sym is) least;
-  within = λ inputs size w. subst (IsHeldWithin inputs size) (sym is) (gave_within inputs size n old none w);
+  within = λ inputs size w. subst (IsHeldWithin inputs size) (sym is) (gave_within inputs size n old few none w);
 }
   where
     least : old.most_given ≤ max old.most_given n

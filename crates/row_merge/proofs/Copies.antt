@@ -1,5 +1,5 @@
 -- A merge by the rule that leaves each row: rows of one part are copied at once, and the part is read on.
-use Rattle.std.proofs.Common.{◌≡◌, ◌⊎◌, inl, inr, ℕ, zero, suc, ◌+◌, ◌-◌, ◌<◌, ◌≤◌, Bool, true, false, List, [], ◌∷◌, ◌++◌, length, map, take, drop, set, get_or, length-drop, refl, sym, ap, ap₂, ◌∙◌, subst, arith, Some, slice_get}
+use Rattle.std.proofs.Common.{◌≡◌, inl, inr, ℕ, ◌+◌, ◌-◌, ◌<◌, ◌≤◌, List, [], ◌∷◌, ◌++◌, length, map, take, drop, set, get_or, length-drop, refl, sym, ap, ap₂, ◌∙◌, subst, arith, Some, slice_get}
 use Rattle.std.specs.List.{All, AllZip, range_with_len}
 use Rattle.std.specs.List.Sorted.{IsSorted}
 use Rattle.std.proofs.lemmas.List.{ext_get_or, get_or-drop, get_or-map, get_or-take, length-map, length-take}
@@ -23,12 +23,12 @@ use Rattle.row_merge.specs.declared.held.Held.{Held}
 use Rattle.row_merge.specs.declared.streams.Inputs.{Inputs}
 use Rattle.row_merge.specs.declared.streams.Stream.{Stream}
 use Rattle.row_merge.specs.declared.stretches.Stretch.{Stretch}
-use Rattle.row_merge.specs.Copies.{CopiesRows, GetsSome, HasSome, IsCopying, IsReadied, TakesSome}
+use Rattle.row_merge.specs.Copies.{IsCopying, IsReadied, TakesSome}
 use Rattle.row_merge.specs.Heads.{AreOfTypes, ahead_of}
 use Rattle.row_merge.specs.Held.{IsHeldWithin, took_some}
-use Rattle.row_merge.specs.Merged.{ArePartRows, IsFoldOf, rows_of_all}
-use Rattle.row_merge.specs.Merging.{AreRanked, AreReady, AreTaken, Merging, TakesRows, ahead_at, joined}
-use Rattle.row_merge.specs.Streams.{HasMerged, IsLeft, IsReaderOf, IsRefilled, IsStream, count_of_rests, rests_of, rows_to_come}
+use Rattle.row_merge.specs.Merged.{ArePartRows}
+use Rattle.row_merge.specs.Merging.{AreRanked, AreReady, AreTaken, TakesRows, ahead_at, joined}
+use Rattle.row_merge.specs.Streams.{HasMerged, IsLeft, IsReaderOf, IsStream, count_of_rests, rests_of, rows_to_come}
 use Rattle.row_merge.specs.Stretches.{TakesStretch, rows_between}
 use Rattle.row_merge.proofs.Filling.{AreReadyBut, ready_again, ready_refilled}
 use Rattle.row_merge.proofs.Leading.{ahead_sorted, rows_of_all_taken, rows_ready_but}
@@ -80,7 +80,7 @@ read_cursor cursors n c x there is =
     is ∙ inside (get_or cursors n x) c (sym (slice_get-get_or cursors n x below) ∙ there)
 
 took_some_within : (inputs size rows : ℕ) (h : Held) → IsHeldWithin inputs size h → IsHeldWithin inputs size (took_some rows h)
-took_some_within inputs size rows h w = record { read = w.read; made = w.made }
+took_some_within inputs size rows h w = record { read = w.read; made = w.made; given = w.given }
 
 module _ {F : Type 0} (i : Inputs F) (old new : Stream F) (s : Stretch) (t : TakesStretch i.places.now old.cursors.items new.cursors.items s) (long : length new.cursors.items ≡ length old.cursors.items) where
   abbrev before : List (List Row)

@@ -21,7 +21,7 @@ use Rattle.row_merge.specs.Course.{TakesIn}
 use Rattle.row_merge.specs.Heads.{ahead_of}
 use Rattle.row_merge.specs.Merged.{ArePartRows, rows_of_all}
 use Rattle.row_merge.specs.Merging.{AreReady, IsTaken, joined}
-use Rattle.row_merge.specs.Streams.{Ends, HandsOver, HasMerged, HasPending, IsLeft, IsMerging, IsPending, TakesRow, rests_of}
+use Rattle.row_merge.specs.Streams.{Ends, HandsOver, HasMerged, HasPending, IsLeft, IsMerging, IsPending, rests_of}
 use Rattle.row_merge.proofs.Courses.{all_out, row_more}
 use Rattle.row_merge.proofs.Merges.{all_joined, all_of_all}
 use Rattle.row_merge.proofs.Sorted.{all_halves}

@@ -7,10 +7,12 @@ pub mod Copying
 pub mod Courses
 pub mod Cursors
 pub mod Explaining
+pub mod Failing
 pub mod Filling
 pub mod FirstGranules
 pub mod Folds
 pub mod GivenSinks
+pub mod GoingOn
 pub mod Handing
 pub mod HistoryRows
 pub mod Keys
@@ -29,6 +31,7 @@ pub mod Refilling
 pub mod Refills
 pub mod Runs
 pub mod Sorted
+pub mod Sound
 pub mod TableMerges
 pub mod TableRules
 pub mod Taking

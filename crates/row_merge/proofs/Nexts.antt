@@ -16,11 +16,11 @@ use Rattle.row_merge.specs.Heads.{AreOfTypes, ahead_of}
 use Rattle.row_merge.specs.Held.{IsHeldWithin, took}
 use Rattle.row_merge.specs.Merged.{rows_of_all}
 use Rattle.row_merge.specs.Merging.{AreRanked, AreReady, IsTaken, TakesFirst, ahead_at, joined}
-use Rattle.row_merge.specs.Streams.{IsLeft, IsReaderOf, IsRefilled, IsStream, KeepsHeld, TakesNext, TakesRow, count_of_rests, rests_of, rows_to_come}
+use Rattle.row_merge.specs.Streams.{AreShaped, IsLeft, IsReaderOf, IsRefilled, IsStream, KeepsHeld, TakesNext, TakesRow, count_of_rests, rests_of, rows_to_come}
 use Rattle.row_merge.proofs.Ahead.{none_left, taken_of_all}
 use Rattle.row_merge.proofs.Cursors.{ahead_is, none_is_ahead}
 use Rattle.row_merge.proofs.Filling.{AreReadyBut, AreReadyUpTo, all_ready, filled, none_ready, one_more_ready, ready_again, ready_refilled, taken_ready}
-use Rattle.row_merge.proofs.Totals.{few_taken, total, total_taken, took_within}
+use Rattle.row_merge.proofs.Totals.{few_taken, total, total_none, total_taken, took_within}
 
 -- ---- rows that are left
 
@@ -88,6 +88,10 @@ module _ {F : Type 0} (places : List ℕ) (old mid : Stream F) (rows left : List
 -- no row is in memory: none is left
 pub none_gives : {F : Type 0} (old : Stream F) (rows left : List (List Row)) → IsLeft old rows left → All (λ (own : List Row). own ≡ []) (ahead_of old.cursors.items) → rows_of_all left ≡ []
 none_gives old rows left at none = ap rows_of_all at.left_is ∙ none_left (ahead_of old.cursors.items) (rests_of old.readers.items rows) at.ready none
+
+-- nor is one counted
+pub none_counted : {F : Type 0} (i : Inputs F) (s : Stream F) → IsStream i s → All (λ (own : List Row). own ≡ []) (ahead_of s.cursors.items) → AreShaped i → s.held.read ≡ 0
+none_counted i s st none shaped = let read = (st.counts shaped).read in omega (arith, read, total_none (ahead_of s.cursors.items) none)
 
 -- ---- what is known of a stream once a row was taken
 

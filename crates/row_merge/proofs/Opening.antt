@@ -9,6 +9,7 @@ use Rattle.mt_values.specs.declared.value.ColType.{ColType}
 use Rattle.mt_values.specs.Schemas.{column_types}
 use Rattle.mt_values.specs.Tables.{sorting_columns}
 use Rattle.mt_values.specs.Values.{Row}
+use Rattle.part_history.specs.mt_model.History.{IsTableSchema}
 use Rattle.part_reader.specs.declared.reading.Part.{Part}
 use Rattle.part_reader.specs.Readings.{Reading}
 use Rattle.part_set.specs.declared.kept.Kept.{Kept}
@@ -84,8 +85,10 @@ module _ {F : Type 0} (i : Inputs F) (own : AreInputs i) (s : Stream F) (readers
   }
 
 -- the columns by which a table's rows are sorted are its own
-pub own_inputs : {F : Type 0} (i : Inputs F) → i.places.now ≡ sorting_columns i.schema.now → All (λ place. place < length i.schema.now.columns) (sorting_columns i.schema.now) → AreInputs i
-own_inputs i places own = record {
+pub own_inputs : {F : Type 0} (i : Inputs F) → IsTableSchema i.schema.now → 0 < length i.parts.now → i.places.now ≡ sorting_columns i.schema.now → All (λ place. place < length i.schema.now.columns) (sorting_columns i.schema.now) → AreInputs i
+own_inputs i table some places own = record {
+  table = table;
+  some = some;
   places_are = places;
   own = subst (All (λ place. place < length (column_types i.schema.now))) (sym places)
       (subst (λ n. All (λ place. place < n) (sorting_columns i.schema.now)) (sym (length-map i.schema.now.columns (λ (c : Column). c.col_type))) own);

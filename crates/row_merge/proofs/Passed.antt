@@ -1,10 +1,8 @@
 -- Rows that are taken while those in memory tell what comes after them.
-use Rattle.std.proofs.Common.{◌≡◌, ℕ, zero, ◌+◌, ◌-◌, ◌<◌, ◌≤◌, ◌^◌, Bool, true, false, not, List, [], ◌∷◌, ◌++◌, length, length-append, length-drop, take, drop, set, get_or, is_some, refl, sym, ap, ap₂, ◌∙◌, subst, arith, Option, None, Some, slice_get}
+use Rattle.std.proofs.Common.{◌≡◌, ℕ, ◌+◌, ◌-◌, ◌<◌, ◌^◌, Bool, true, false, not, List, [], ◌∷◌, ◌++◌, length, length-append, length-drop, take, drop, set, get_or, is_some, refl, sym, ap, ◌∙◌, subst, arith, Option, None, Some, slice_get}
 use Rattle.std.specs.List.{All}
 use Rattle.std.specs.List.Sorted.{IsSorted}
-use Rattle.std.specs.Ordering.{is_eq, is_ne, ordering_reverse}
-use Rattle.std.specs.declared.cmp.Ordering.{Ordering}
-use Rattle.std.specs.declared.cmp.Ordering.TheVariants.{Less, Equal, Greater}
+use Rattle.std.specs.Ordering.{is_eq, is_ne}
 use Rattle.std.proofs.lemmas.List.{drop_more, get_or-set_same, get_or_push, length-map, length-set}
 use Rattle.std.proofs.lemmas.List.Elements.{All-head, All-nil, All-weaker}
 use Rattle.std.proofs.lemmas.Option.{slice_get-get_or, slice_get_within}
@@ -16,7 +14,6 @@ use Rattle.mt_values.specs.Values.{Row, types_of}
 use Rattle.mt_values.specs.declared.value.ColType.{ColType}
 use Rattle.mt_values.specs.declared.value.Value.{Value}
 use Rattle.part_history.specs.mt_model.Folding.{Leaves}
-use Rattle.part_reader.specs.Readings.{Reading}
 use Rattle.part_reader.specs.part_writer.Growing.{Growing, HasRows}
 use Rattle.rule_replacing.specs.rule_law.TableRows.{IsTableRow}
 use Rattle.row_merge.specs.declared.course.Current.{Current}
@@ -28,7 +25,6 @@ use Rattle.row_merge.specs.declared.stretches.Place.{Place}
 use Rattle.row_merge.specs.Course.{HoldsKey, HoldsRows}
 use Rattle.row_merge.specs.Fates.{GivesWay, IsAlone}
 use Rattle.row_merge.specs.Heads.{AreOfTypes, ahead_of}
-use Rattle.row_merge.specs.Merged.{rows_of_all}
 use Rattle.row_merge.specs.Merging.{AreRanked, IsTaken, Merging, TakesFirst, ahead_at, joined}
 use Rattle.row_merge.specs.Passing.{IsGoing, IsLeading, TakesAhead}
 use Rattle.row_merge.specs.Streams.{Ends, HandsOver, HasPending, IsLeft, IsMerging, KeepsHeld, TakesRow, rests_of}

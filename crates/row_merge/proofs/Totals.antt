@@ -60,11 +60,11 @@ few_taken places size ahead new input row t all =
 
 -- nothing yet
 pub none_within : (inputs size : ℕ) → IsHeldWithin inputs size no_rows
-none_within inputs size = record { read = omega arith; made = omega arith }
+none_within inputs size = record { read = omega arith; made = omega arith; given = omega arith }
 
 -- rows were read
 pub read_within : (inputs size rows now : ℕ) (h : Held) → IsHeldWithin inputs size h → h.read + rows ≤ now → now ≤ inputs * size → IsHeldWithin inputs size (read_more rows h)
-read_within inputs size rows now h w read few = record { read = omega (arith, w.read, read, few); made = w.made }
+read_within inputs size rows now h w read few = record { read = omega (arith, w.read, read, few); made = w.made; given = w.given }
 
 pub read_counts : (rows now : ℕ) (h : Held) → h.read + rows ≤ now → sum_of h.read rows ≤ now
 read_counts rows now h read = omega (arith, read)
@@ -89,11 +89,11 @@ held_stays old new is = subst (KeepsHeld old) (sym is) (record { read = refl; mo
 
 -- a row was taken
 pub took_within : (inputs size : ℕ) (h : Held) → IsHeldWithin inputs size h → IsHeldWithin inputs size (took h)
-took_within inputs size h w = record { read = w.read; made = w.made }
+took_within inputs size h w = record { read = w.read; made = w.made; given = w.given }
 
 -- the rule gave rows, and some were appended
-pub gave_within : (inputs size rows : ℕ) (h : Held) → h.made ≡ 0 → IsHeldWithin inputs size h → IsHeldWithin inputs size (gave rows h)
-gave_within inputs size rows h none w = record { read = w.read; made = omega (arith, none, w.made) }
+pub gave_within : (inputs size rows : ℕ) (h : Held) → rows < 2 ^ 64 → h.made ≡ 0 → IsHeldWithin inputs size h → IsHeldWithin inputs size (gave rows h)
+gave_within inputs size rows h few none w = record { read = w.read; made = omega (arith, none, w.made); given = omega (arith, few, none, w.given) }
 
 pub appended_within : (inputs size rows : ℕ) (h : Held) → IsHeldWithin inputs size h → IsHeldWithin inputs size (appended rows h)
-appended_within inputs size rows h w = record { read = w.read; made = w.made }
+appended_within inputs size rows h w = record { read = w.read; made = w.made; given = w.given }

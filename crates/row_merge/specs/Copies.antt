@@ -1,5 +1,5 @@
 -- Parts merged by the rule that leaves each row (docs/engines.md, "MergeTree").
-use Rattle.std.specs.Prelude.{◌≡◌, ◌⊎◌, ℕ, ◌<◌, ◌≤◌, Bool, false, true, List, [], length, slice_get, All, IsSorted, Option, Some, None}
+use Rattle.std.specs.Prelude.{◌≡◌, ◌⊎◌, ℕ, ◌<◌, ◌≤◌, Bool, false, true, List, [], length, slice_get, IsSorted, Option, Some, None}
 use Rattle.mt_values.specs.declared.engine.Engine.TheVariants as engine
 use Rattle.mt_values.specs.Order.{key_cmp}
 use Rattle.mt_values.specs.Schemas.{column_types}
@@ -12,7 +12,7 @@ use Rattle.row_merge.specs.declared.streams.Stream.{Stream}
 use Rattle.row_merge.specs.declared.stretches.Stretch.{Stretch}
 use Rattle.row_merge.specs.Heads.{ahead_of}
 use Rattle.row_merge.specs.Merging.{Merging, TakesRows, ahead_at}
-use Rattle.row_merge.specs.Streams.{HasMerged, IsLeft, IsRefilled, rows_to_come}
+use Rattle.row_merge.specs.Streams.{HasMerged, HasNone, IsLeft, IsRefilled, rows_to_come}
 use Rattle.row_merge.specs.Stretches.{rows_between}
 
 -- ---- rows of one part are taken
@@ -31,7 +31,7 @@ pub record TakesSome {F : Type 0} (i : Inputs F) (old new : Stream F) (s : Stret
 
 -- the same, or none is in memory
 abbrev pub MayTakeSome : {F : Type 0} → Inputs F → Stream F → Stream F → Option Stretch → Type 0
-MayTakeSome i old new None = All (λ (rows : List Row). rows ≡ []) (ahead_of old.cursors.items)
+MayTakeSome i old new None = HasNone i old new
 MayTakeSome i old new (Some s) = TakesSome i old new s
 
 -- an input that has rows in memory stays as it is

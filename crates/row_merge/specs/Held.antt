@@ -1,5 +1,5 @@
 -- How many rows a merge has in memory (docs/engines.md, "Merges").
-use Rattle.std.specs.Prelude.{ℕ, ◌+◌, ◌-◌, ◌*◌, ◌≤◌, ◌^◌, max, min}
+use Rattle.std.specs.Prelude.{◌≡◌, ℕ, ◌+◌, ◌-◌, ◌*◌, ◌≤◌, ◌^◌, max, min}
 use Rattle.row_merge.specs.declared.held.Held.{Held}
 
 -- no row was read yet
@@ -27,7 +27,14 @@ gave rows h = record h { made = sum_of h.made rows; most_made = max h.most_made 
 abbrev pub appended : ℕ → Held → Held
 appended rows h = record h { made = h.made - rows }
 
--- A merge of this many inputs had at most a granule of each in memory, and of the rows that its rule gave at most a granule and those that it gave at once.
+-- no row is in memory
+pub record IsIdle (h : Held) : Type 0 where
+  pub read : h.read ≡ 0
+  pub made : h.made ≡ 0
+
+-- A merge of this many inputs had at most a granule of each in memory, and of the rows that its rule gave at most a granule and those that it gave at once, and no
+-- fewer than these.
 pub record IsHeldWithin (inputs granularity : ℕ) (h : Held) : Type 0 where
   pub read : h.most_read ≤ inputs * granularity
   pub made : h.most_made ≤ granularity + h.most_given
+  pub given : h.most_given ≤ h.most_made

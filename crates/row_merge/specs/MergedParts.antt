@@ -1,5 +1,5 @@
 -- Parts that are merged, and the part that is sealed of them (docs/engines.md, "Merges").
-use Rattle.std.specs.Prelude.{◌≡◌, ◌⊎◌, ℕ, ◌+◌, ◌<◌, min, Bool, List, [], ◌∷◌, length, slice_get, Option, Some, ⊤}
+use Rattle.std.specs.Prelude.{◌≡◌, ◌⊎◌, ℕ, ◌+◌, ◌<◌, min, Bool, List, [], ◌∷◌, length, slice_get, Option, Some, Result, IfErr, IsErrAnd, ⊤}
 use Rattle.std.specs.List.{AllZip, range_with_len}
 use Rattle.mt_base.specs.declared.name.FileId.TheVariants as file
 use Rattle.mt_base.specs.declared.partition.Partition.{Partition}
@@ -83,6 +83,12 @@ pub record ExplainsMerge {F : Type 0} (files_of : F → Option Files) (schema : 
   pub kept_is : slice_get parts at ≡ Some kept
   pub name_is : e.0 ≡ kept.name
   pub explained : ExplainsPart files_of schema kept.part e.1
+
+-- What a call that reads parts says where it fails, of one of them by its name, and what it leaves of the counts of faults, by whether it answers one
+-- (docs/architecture.md, "Counts of faults").
+pub record Fails {X : Type 0} (Says : PartName × PartFault → Type 0) (Leaves : Type 0 → Type 0) (result : Result X (PartName × PartFault)) : Type 0 where
+  pub damaged : IfErr result Says
+  pub leaves : Leaves (IsErrAnd result (λ e. e.1 ≡ Fault))
 
 -- ---- first granules
 

@@ -1,5 +1,5 @@
 -- Parts that are read granule by granule, and what a merge of them has in memory (docs/engines.md, "Merges").
-use Rattle.std.specs.Prelude.{◌≡◌, ◌⊎◌, ℕ, ◌+◌, ◌*◌, ◌≤◌, ◌<◌, ◌-◌, ◌/◌, ◌^◌, max, min, Bool, true, List, [], ◌∷◌, ◌++◌, length, replicate, slice_get, All, Option, Some, None}
+use Rattle.std.specs.Prelude.{◌≡◌, ◌⊎◌, ℕ, ◌+◌, ◌*◌, ◌≤◌, ◌<◌, ◌-◌, ◌/◌, ◌^◌, max, min, Bool, true, List, [], ◌∷◌, ◌++◌, length, replicate, slice_get, is_some, All, Option, Some, None}
 use Rattle.std.specs.List.{AllZip, slice_index_or, slice_set}
 use Rattle.mt_base.specs.declared.partition.Partition.{Partition}
 use Rattle.mt_outside.specs.declared.disk.Arm.{Ghosts as ArmGhosts}
@@ -9,15 +9,16 @@ use Rattle.mt_values.specs.declared.schema.Schema.{Schema}
 use Rattle.mt_values.specs.declared.value.ColType.{ColType}
 use Rattle.mt_values.specs.Grid.{AreRowsOf}
 use Rattle.mt_values.specs.Schemas.{column_types}
-use Rattle.mt_values.specs.Tables.{sorting_columns}
+use Rattle.mt_values.specs.Tables.{has_sign, sorting_columns}
 use Rattle.mt_values.specs.Values.{Row, types_of}
 use Rattle.part_history.specs.mt_model.Folding.{Leaves}
+use Rattle.part_history.specs.mt_model.History.{IsTableSchema}
 use Rattle.part_history.specs.part_name.declared.part.PartName.{PartName}
 use Rattle.part_reader.specs.declared.reading.Part.{Part}
 use Rattle.part_reader.specs.declared.reading.PartFault.{PartFault}
 use Rattle.part_reader.specs.Faults.{ExplainsAt}
 use Rattle.part_reader.specs.Granules.{ExplainsRun, PartColumn, column_in, rows_in}
-use Rattle.part_reader.specs.part_writer.Growing.{Growing, HasRows}
+use Rattle.part_reader.specs.part_writer.Growing.{Growing, HasRows, IsWhole}
 use Rattle.part_reader.specs.Readings.{Reading, count_left, lone, rows_left}
 use Rattle.part_set.specs.declared.kept.Kept.{Kept}
 use Rattle.rule_replacing.specs.rule_law.TableRows.{IsTableRow}
@@ -90,8 +91,10 @@ count_of_rests (r ∷ readers) = count_left r + count_of_rests readers
 
 -- ---- parts that are read
 
--- parts of a table, with the columns by which its rows are sorted
+-- parts of a table, at least one, with the columns by which its rows are sorted
 pub record AreInputs {F : Type 0} (i : Inputs F) : Type 0 where
+  pub table : IsTableSchema i.schema.now
+  pub some : 0 < length i.parts.now
   pub places_are : i.places.now ≡ sorting_columns i.schema.now
   pub own : All (λ place. place < length (column_types i.schema.now)) i.places.now
 
@@ -99,13 +102,17 @@ pub record AreInputs {F : Type 0} (i : Inputs F) : Type 0 where
 abbrev pub AreShaped : {F : Type 0} → Inputs F → Type 0
 AreShaped {F} i = All (λ (k : Kept (Part F)). HasShape i.schema.now k.part.loaded.schema) i.parts.now
 
+-- what is in memory of parts and of what the rule gave stays within what is said of a merge of as many
+abbrev pub IsWithin : {F : Type 0} → Inputs F → Held → Type 0
+IsWithin i h = IsHeldWithin (length i.parts.now) i.schema.now.granularity h
+
 -- What is counted as read is in memory, of each part a granule at most. It is all that is in memory, where the count has room for a granule of each.
 pub record CountsRows {F : Type 0} (i : Inputs F) (s : Stream F) : Type 0 where
   pub read : s.held.read ≤ length (rows_of_all (ahead_of s.cursors.items))
   pub exact : length i.parts.now * i.schema.now.granularity < 2 ^ 64 → s.held.read ≡ length (rows_of_all (ahead_of s.cursors.items))
   pub reached : s.held.read ≤ s.held.most_read
   pub few : All (λ (rows : List Row). length rows ≤ i.schema.now.granularity) (ahead_of s.cursors.items)
-  pub within : IsHeldWithin (length i.parts.now) i.schema.now.granularity s.held
+  pub within : IsWithin i s.held
 
 -- parts of a table, the reader of each, and the rows of each that are in memory; those that have some are ranked. No row that the rule gave is in memory.
 pub record IsStream {F : Type 0} (i : Inputs F) (s : Stream F) : Type 0 where
@@ -175,9 +182,13 @@ pub record TakesNext {F : Type 0} (i : Inputs F) (old new : Stream F) (taken : �
   pub first : TakesFirst i.places.now (ahead_of old.cursors.items) taken.0 taken.1 (ahead_of new.cursors.items)
   pub typed : types_of taken.1 ≡ column_types i.schema.now
 
--- the same, or none is in memory
+-- none is in memory, and none is counted then
+pub record HasNone {F : Type 0} (i : Inputs F) (old new : Stream F) : Type 0 where
+  pub none : All (λ (rows : List Row). rows ≡ []) (ahead_of old.cursors.items)
+  pub idle : AreShaped i → new.held.read ≡ 0
+
 abbrev pub MayTake : {F : Type 0} → Inputs F → Stream F → Stream F → Option (ℕ × Row) → Type 0
-MayTake i old new None = All (λ (rows : List Row). rows ≡ []) (ahead_of old.cursors.items)
+MayTake i old new None = HasNone i old new
 MayTake i old new (Some taken) = TakesNext i old new taken
 
 -- ---- why a part could not be read
@@ -201,6 +212,29 @@ pub record ExplainsStream {F : Type 0} (files_of : F → Option Files) (i : Inpu
 
 -- ---- a merge that is on its way
 
+-- Rows were appended to a part that is written: it is whole, of the same table, and its files are told as before.
+pub record Grew (was out : Growing) : Type 0 where
+  pub whole : IsWhole out
+  pub table : out.grown.schema ≡ was.grown.schema
+  pub told : is_some out.stage.files ≡ is_some was.stage.files
+
+-- A merge of parts into one that is written may go on: they are those of the table, and that one is whole, and of the same table.
+pub record MayGoOn {F : Type 0} (i : Inputs F) (s : Stream F) (out : Growing) : Type 0 where
+  pub stream : IsStream i s
+  pub shaped : AreShaped i
+  pub whole : IsWhole out
+  pub table : out.grown.schema ≡ i.schema.now
+
+-- It went on, and may go on: the files of the part that is written are told as before, and the greatest count of rows in memory did not fall.
+pub record WentOn {F : Type 0} (i : Inputs F) (was s : Stream F) (out_was out : Growing) : Type 0 where
+  pub on : MayGoOn i s out
+  pub told : is_some out.stage.files ≡ is_some out_was.stage.files
+  pub rises : was.held.most_read ≤ s.held.most_read
+
+-- a rule takes each row of a table that has its sign
+abbrev pub TakesTable : (Row → Type 0) → Schema → Type 0
+TakesTable takes schema = (row : Row) → types_of row ≡ column_types schema → has_sign schema row ≡ true → takes row
+
 -- rows that the rule takes, of these types, and of which it has a state
 pub record IsPending {S : Type 0} (holds : S → List Row → Type 0) (takes : Row → Type 0) (types : List ColType) (current : Option (Current S)) (pending : List Row) : Type 0 where
   pub held : HoldsKey holds current pending
@@ -210,6 +244,10 @@ pub record IsPending {S : Type 0} (holds : S → List Row → Type 0) (takes : R
 pub record HasPending {S : Type 0} (holds : S → List Row → Type 0) (takes : Row → Type 0) (types : List ColType) (current : Option (Current S)) : Type 0 where
   pub pending : List Row
   pub is : IsPending holds takes types current pending
+
+-- the same of rows of the table
+abbrev pub HasCurrent : {F S : Type 0} → (S → List Row → Type 0) → (Row → Type 0) → Inputs F → Option (Current S) → Type 0
+HasCurrent holds takes i current = HasPending holds takes (column_types i.schema.now) current
 
 -- the next row was handed over, and what came out
 pub record HandsOver {S : Type 0} (places : List ℕ) (run : List Row → List Row → Type 0) (holds : S → List Row → Type 0) (takes : Row → Type 0) (types : List ColType) (inputs : List (List Row)) (out : List Row) (left : List (List Row)) (new : Option (Current S)) : Type 0 where

@@ -1,5 +1,5 @@
 // Parts of which chosen granules alone are read, merged as those of a whole merge are (docs/engines.md, "FINAL").
-ghost use Rattle.std.specs.Prelude.{◌≡◌, ◌<◌, ◌^◌, [], All, IfErr, IfOk, IsErrAnd, List, OnOk, length};
+ghost use Rattle.std.specs.Prelude.{◌≡◌, ◌<◌, ◌^◌, [], All, IfOk, List, OnOk, length};
 ghost use Rattle.mt_base.specs.declared.partition.Partition.{Partition};
 ghost use Rattle.mt_values.specs.Schemas.{column_types};
 ghost use Rattle.mt_values.specs.Tables.{sorting_columns};
@@ -7,7 +7,7 @@ ghost use Rattle.mt_values.specs.Values.{Row};
 ghost use Rattle.part_history.specs.mt_model.History.{IsTableSchema};
 ghost use Rattle.row_merge.specs.Heads.{ahead_of};
 ghost use Rattle.row_merge.specs.Merged.{ArePartRows};
-ghost use Rattle.row_merge.specs.MergedParts.{ExplainsWholes, PartsHold, chosen_inputs, column_places};
+ghost use Rattle.row_merge.specs.MergedParts.{ExplainsWholes, Fails, PartsHold, chosen_inputs, column_places};
 ghost use Rattle.row_merge.specs.Sinks.{GetsMerged, GetsSome};
 ghost use Rattle.row_merge.specs.Streams.{AreInputs, IsStream, LeavesBoth, chosen_readers, share};
 
@@ -51,12 +51,9 @@ pub fn merge_chosen<R: Arm, T: RowSink>(
         (chosen_inputs schema.now.granularity chosen.now rows) out.old out.new) }
     ensures gets { OnOk result (GetsSome T.gets out.old out.new) }
 
-    // What a fault says.
-    ensures damaged { IfErr result (ExplainsWholes R.Dir.files schema.now parts.now chosen.now) }
-
-    // What the arm and the sink are then, and their counts of faults.
-    ensures leaves { LeavesBoth R.Arm arm.old arm.new (T.failed out.old) (T.failed out.new)
-        (IsErrAnd result (λ e. e.1 ≡ PartFault.Fault)) }
+    // What a fault says, and what the arm and the sink are then, with their counts of faults.
+    ensures fails { Fails (ExplainsWholes R.Dir.files schema.now parts.now chosen.now)
+        (LeavesBoth R.Arm arm.old arm.new (T.failed out.old) (T.failed out.new)) result }
 {
     let Ok((sorting, columns)) = columns_of(alloc, schema) else {
         return Err((parts[0].name, PartFault::NoMemory));

@@ -1,6 +1,6 @@
 // Parts merged by the rule that leaves each row (docs/engines.md, "MergeTree"): the rows that come next of one part, side by side, are
 // copied as columns.
-ghost use Rattle.std.specs.Prelude.{◌≡◌, ◌<◌, ◌≤◌, ◌^◌, ◌++◌, [], false, true, All, IfErr, IfOk, IsErrAnd, List, OnOk, is_some, length};
+ghost use Rattle.std.specs.Prelude.{◌≡◌, ◌<◌, ◌≤◌, ◌^◌, ◌++◌, [], false, true, All, IfOk, List, OnOk, length};
 ghost use Rattle.std.specs.List.{range_with_len};
 ghost use Rattle.mt_base.specs.declared.partition.Partition.{Partition};
 ghost use Rattle.mt_outside.specs.DiskCauses.{HasDiskCause};
@@ -9,14 +9,13 @@ ghost use Rattle.mt_values.specs.Schemas.{column_types};
 ghost use Rattle.mt_values.specs.Values.{Row};
 ghost use Rattle.mt_values.specs.declared.engine.Engine.TheVariants as engine;
 ghost use Rattle.part_history.specs.mt_model.Rules.{Run};
-ghost use Rattle.part_reader.specs.Faults.{IsNoDamage};
 ghost use Rattle.part_reader.specs.part_writer.Growing.{HasRows, IsWhole};
 ghost use Rattle.row_merge.specs.Copies.{CopiesRows, IsCopying, IsReadied, MayTakeSome};
 ghost use Rattle.row_merge.specs.Heads.{ahead_of};
-ghost use Rattle.row_merge.specs.Held.{IsHeldWithin};
+ghost use Rattle.row_merge.specs.Held.{IsIdle};
 ghost use Rattle.row_merge.specs.Merged.{ArePartRows};
-ghost use Rattle.row_merge.specs.MergedParts.{ExplainsMerge, PartsHold};
-ghost use Rattle.row_merge.specs.Streams.{AreLater, AreShaped, ExplainsStream, HasMerged, IsLeft, IsStream, LeavesBoth, rests_of, rows_to_come};
+ghost use Rattle.row_merge.specs.MergedParts.{ExplainsMerge, Fails, PartsHold};
+ghost use Rattle.row_merge.specs.Streams.{AreLater, AreShaped, ExplainsStream, Grew, HasMerged, IsLeft, IsStream, IsWithin, LeavesBoth, MayGoOn, WentOn, rests_of, rows_to_come};
 ghost use Rattle.row_merge.specs.Stretches.{rows_between};
 
 use crate::heads::has_row;
@@ -40,34 +39,21 @@ pub(crate) fn copy_stream<R: Arm>(
     stream: &mut Stream<R::Dir>,
     out: &mut PartOut<R>,
 ) -> Result<(), (PartName, PartFault)>
-    requires stream { IsStream inputs.now stream.old }
-    requires some { 0 < length inputs.now.parts.now }
-    requires shaped { AreShaped inputs.now }
+    requires on { MayGoOn inputs.now stream.old out.old }
     requires empty { HasRows out.old [] }
-    requires table { out.old.grown.schema ≡ inputs.now.schema.now }
 
     // What is written.
     ensures merged { (partition : Partition) (rows : List (List Row))
         → PartsHold R.Dir.files inputs.now.schema.now inputs.now.parts.now rows
         → IsLeft stream.old rows rows → All (ArePartRows inputs.now.schema.now partition) rows
         → OnOk result (HasMerged inputs.now.places.now (Run engine.Plain []) rows out.new) }
-    ensures whole { OnOk result (IsWhole out.new) }
-    ensures table { OnOk result (out.new.grown.schema ≡ out.old.grown.schema) }
-    ensures told { OnOk result (is_some out.new.stage.files ≡ is_some out.old.stage.files) }
-    ensures rises { OnOk result (stream.old.held.most_read ≤ stream.new.held.most_read) }
-    ensures most { IsHeldWithin (length inputs.now.parts.now) inputs.now.schema.now.granularity
-        stream.new.held }
+    ensures on { OnOk result (WentOn inputs.now stream.old stream.new out.old out.new) }
+    ensures idle { OnOk result (IsIdle stream.new.held) }
+    ensures most { IsWithin inputs.now stream.new.held }
 
-    // What a fault says.
-    ensures sound { (rows : List (List Row))
-        → PartsHold R.Dir.files inputs.now.schema.now inputs.now.parts.now rows
-        → IfErr result (λ e. IsNoDamage e.1) }
-    ensures damaged { IfErr result
-        (ExplainsMerge R.Dir.files inputs.now.schema.now inputs.now.parts.now) }
-
-    // What the arm and the stage are then, and their counts of faults.
-    ensures leaves { LeavesBoth R.Arm arm.old arm.new out.old.stage.failed out.new.stage.failed
-        (IsErrAnd result (λ e. e.1 ≡ PartFault.Fault)) }
+    // What a fault says, and what the arm and the stage are then, with their counts of faults.
+    ensures fails { Fails (ExplainsMerge R.Dir.files inputs.now.schema.now inputs.now.parts.now)
+        (LeavesBoth R.Arm arm.old arm.new out.old.stage.failed out.new.stage.failed) result }
 {
     let mut order = Vec::new(alloc);
     'rows: while copy_next(alloc, arm, inputs, stream, &mut order, out)? {}
@@ -86,12 +72,8 @@ fn copy_next<R: Arm>(
     order: &mut Vec<u32>,
     out: &mut PartOut<R>,
 ) -> Result<bool, (PartName, PartFault)>
-    requires stream { IsStream inputs.now stream.old }
-    requires some { 0 < length inputs.now.parts.now }
-    requires shaped { AreShaped inputs.now }
+    requires on { MayGoOn inputs.now stream.old out.old }
     requires order { order.old.items ≡ range_with_len 0 (length order.old.items) }
-    requires whole { IsWhole out.old }
-    requires table { out.old.grown.schema ≡ inputs.now.schema.now }
 
     // What is written, and what is left.
     ensures copies { (rows : List (List Row))
@@ -100,25 +82,14 @@ fn copy_next<R: Arm>(
         → IfOk result (CopiesRows inputs.now.places.now rows stream.new out.new) }
     ensures fewer { IfOk result (λ more. more ≡ true
         → rows_to_come stream.new < rows_to_come stream.old) }
-    ensures stream { OnOk result (IsStream inputs.now stream.new) }
+    ensures idle { IfOk result (λ more. more ≡ false → stream.new.held.read ≡ 0) }
     ensures order { OnOk result (order.new.items ≡ range_with_len 0 (length order.new.items)) }
-    ensures whole { OnOk result (IsWhole out.new) }
-    ensures table { OnOk result (out.new.grown.schema ≡ out.old.grown.schema) }
-    ensures told { OnOk result (is_some out.new.stage.files ≡ is_some out.old.stage.files) }
-    ensures rises { OnOk result (stream.old.held.most_read ≤ stream.new.held.most_read) }
-    ensures most { IsHeldWithin (length inputs.now.parts.now) inputs.now.schema.now.granularity
-        stream.new.held }
+    ensures on { OnOk result (WentOn inputs.now stream.old stream.new out.old out.new) }
+    ensures most { IsWithin inputs.now stream.new.held }
 
-    // What a fault says.
-    ensures sound { (rows : List (List Row))
-        → PartsHold R.Dir.files inputs.now.schema.now inputs.now.parts.now rows
-        → IfErr result (λ e. IsNoDamage e.1) }
-    ensures damaged { IfErr result
-        (ExplainsMerge R.Dir.files inputs.now.schema.now inputs.now.parts.now) }
-
-    // What the arm and the stage are then, and their counts of faults.
-    ensures leaves { LeavesBoth R.Arm arm.old arm.new out.old.stage.failed out.new.stage.failed
-        (IsErrAnd result (λ e. e.1 ≡ PartFault.Fault)) }
+    // What a fault says, and what the arm and the stage are then, with their counts of faults.
+    ensures fails { Fails (ExplainsMerge R.Dir.files inputs.now.schema.now inputs.now.parts.now)
+        (LeavesBoth R.Arm arm.old arm.new out.old.stage.failed out.new.stage.failed) result }
 {
     let Ok(found) = take_some(inputs, stream) else {
         return Err((inputs.parts[0].name, PartFault::NoMemory));
@@ -143,13 +114,12 @@ fn take_some<F: Dir>(
     inputs: &Inputs<F>,
     stream: &mut Stream<F>,
 ) -> Result<Option<Stretch>, NoMemory>
-    requires { IsStream inputs.now stream.old }
+    requires stream { IsStream inputs.now stream.old }
     ensures takes { IfOk result (MayTakeSome inputs.now stream.old stream.new) }
     ensures readers { stream.new.readers.items ≡ stream.old.readers.items }
     ensures stream { OnOk result (IsStream inputs.now stream.new) }
     ensures rises { OnOk result (stream.old.held.most_read ≤ stream.new.held.most_read) }
-    ensures most { AreShaped inputs.now → IsHeldWithin (length inputs.now.parts.now)
-        inputs.now.schema.now.granularity stream.new.held }
+    ensures most { AreShaped inputs.now → IsWithin inputs.now stream.new.held }
 {
     let Some(own) = take_stretch(inputs.places, &mut stream.cursors, &mut stream.ranked)? else {
         return Ok(None);
@@ -181,18 +151,11 @@ fn read_on<R: Arm>(
         (rests_of stream.new.readers.items rows)) }
     ensures count { OnOk result (rows_to_come stream.new ≡ rows_to_come stream.old) }
     ensures rises { OnOk result (stream.old.held.most_read ≤ stream.new.held.most_read) }
-    ensures most { AreShaped inputs.now → IsHeldWithin (length inputs.now.parts.now)
-        inputs.now.schema.now.granularity stream.new.held }
+    ensures most { AreShaped inputs.now → IsWithin inputs.now stream.new.held }
 
-    // What a fault says.
-    ensures sound { (rows : List (List Row))
-        → PartsHold R.Dir.files inputs.now.schema.now inputs.now.parts.now rows
-        → IfErr result (λ e. IsNoDamage e.1) }
-    ensures damaged { IfErr result
-        (ExplainsStream R.Dir.files inputs.now stream.old.readers.items) }
-
-    // What the arm is then, and its count of faults.
-    ensures arm { LeavesArm R.Arm arm.old arm.new (IsErrAnd result (λ e. e.1 ≡ PartFault.Fault)) }
+    // What a fault says, and what the arm is then, with its count of faults.
+    ensures fails { Fails (ExplainsStream R.Dir.files inputs.now stream.old.readers.items)
+        (LeavesArm R.Arm arm.old arm.new) result }
 {
     if has_row(&stream.cursors[number]) {
         return Ok(());
@@ -221,9 +184,7 @@ pub(crate) fn copy_rows<R: Arm>(
     // What is added.
     ensures rows { (done : List Row) → HasRows out.old done
         → OnOk result (HasRows out.new (done ++ rows_between from to block.now.rows)) }
-    ensures whole { OnOk result (IsWhole out.new) }
-    ensures table { OnOk result (out.new.grown.schema ≡ out.old.grown.schema) }
-    ensures told { OnOk result (is_some out.new.stage.files ≡ is_some out.old.stage.files) }
+    ensures grew { OnOk result (Grew out.old out.new) }
     ensures order { OnOk result (order.new.items ≡ range_with_len 0 (length order.new.items)) }
 
     ensures cause { HasDiskCause out.old.stage.failed out.new.stage.failed result }

@@ -1,7 +1,7 @@
 // Rows that are taken while those in memory tell what comes after them: a row that is the only one of its key is copied as columns where
 // the rule leaves it as it is, one of which the next one leaves nothing is left out, and a key ends once its last row was handed over.
 // Only rows that the rule gets are made rows of their own.
-ghost use Rattle.std.specs.Prelude.{◌≡◌, ◌<◌, ◌≤◌, ◌++◌, [], true, All, IfOk, List, OnOk, is_some, length};
+ghost use Rattle.std.specs.Prelude.{◌≡◌, ◌<◌, ◌≤◌, ◌++◌, [], true, All, IfOk, List, OnOk, length};
 ghost use Rattle.std.specs.List.{range_with_len, slice_index_or};
 ghost use Rattle.mt_outside.specs.DiskCauses.{HasDiskCause};
 ghost use Rattle.mt_values.specs.Grid.{AreRowsOf};
@@ -11,11 +11,10 @@ ghost use Rattle.mt_values.specs.Values.{Row, types_of};
 ghost use Rattle.part_reader.specs.part_writer.Growing.{HasRows, IsWhole};
 ghost use Rattle.rule_replacing.specs.rule_law.TableRows.{IsTableRow};
 ghost use Rattle.row_merge.specs.Heads.{ahead_of};
-ghost use Rattle.row_merge.specs.Held.{IsHeldWithin};
 ghost use Rattle.row_merge.specs.Merged.{rows_of_all};
 ghost use Rattle.row_merge.specs.Merging.{IsTaken, ahead_at};
 ghost use Rattle.row_merge.specs.Passing.{IsGoing, IsLeading, TakesAhead};
-ghost use Rattle.row_merge.specs.Streams.{AreInputs, AreShaped, HandsOver, HasPending, IsLeft, IsMerging, IsStream, KeepsHeld, rows_to_come};
+ghost use Rattle.row_merge.specs.Streams.{AreInputs, AreShaped, Grew, HandsOver, HasCurrent, IsLeft, IsMerging, IsStream, IsWithin, KeepsHeld, MayGoOn, TakesTable, WentOn, rows_to_come};
 ghost use Rattle.row_merge.specs.Stretches.{HasAnother};
 
 use crate::copied::copy_rows;
@@ -47,15 +46,11 @@ pub(crate) fn append_on<R: Arm, Q: RowRule>(
     order: &mut Vec<u32>,
     out: &mut PartOut<R>,
 ) -> Result<Option<Current<Q::State>>, DiskError>
-    requires stream { IsStream inputs.now stream.old }
-    requires takes { (row : Row) → types_of row ≡ column_types inputs.now.schema.now
-        → has_sign inputs.now.schema.now row ≡ true → Q.takes rule.now row }
-    requires current { HasPending (Q.holds rule.now) (Q.takes rule.now)
-        (column_types inputs.now.schema.now) current }
+    requires on { MayGoOn inputs.now stream.old out.old }
+    requires takes { TakesTable (Q.takes rule.now) inputs.now.schema.now }
+    requires current { HasCurrent (Q.holds rule.now) (Q.takes rule.now) inputs.now current }
     requires typed { AreRowsOf (column_types out.old.grown.schema) kept.now }
     requires order { order.old.items ≡ range_with_len 0 (length order.old.items) }
-    requires whole { IsWhole out.old }
-    requires table { out.old.grown.schema ≡ inputs.now.schema.now }
 
     // What is written, and what is left.
     ensures merges { (rows left : List (List Row)) (done : List Row)
@@ -65,17 +60,11 @@ pub(crate) fn append_on<R: Arm, Q: RowRule>(
         → IsLeft stream.old rows left → All (IsTableRow inputs.now.schema.now) (rows_of_all left)
         → IfOk result (λ new. IsMerging (Q.run rule.now) (Q.holds rule.now) (Q.takes rule.now)
         inputs.now rows stream.new new out.new) }
-    ensures current { IfOk result (HasPending (Q.holds rule.now) (Q.takes rule.now)
-        (column_types inputs.now.schema.now)) }
+    ensures current { IfOk result (HasCurrent (Q.holds rule.now) (Q.takes rule.now) inputs.now) }
     ensures fewer { OnOk result (rows_to_come stream.new ≤ rows_to_come stream.old) }
-    ensures stream { OnOk result (IsStream inputs.now stream.new) }
     ensures order { OnOk result (order.new.items ≡ range_with_len 0 (length order.new.items)) }
-    ensures whole { OnOk result (IsWhole out.new) }
-    ensures table { OnOk result (out.new.grown.schema ≡ out.old.grown.schema) }
-    ensures told { OnOk result (is_some out.new.stage.files ≡ is_some out.old.stage.files) }
-    ensures rises { OnOk result (stream.old.held.most_read ≤ stream.new.held.most_read) }
-    ensures most { AreShaped inputs.now → IsHeldWithin (length inputs.now.parts.now)
-        inputs.now.schema.now.granularity stream.new.held }
+    ensures on { OnOk result (WentOn inputs.now stream.old stream.new out.old out.new) }
+    ensures most { IsWithin inputs.now stream.new.held }
 
     ensures cause { HasDiskCause out.old.stage.failed out.new.stage.failed result }
 {
@@ -95,31 +84,21 @@ fn pass_rows<R: Arm, Q: RowRule>(
     order: &mut Vec<u32>,
     out: &mut PartOut<R>,
 ) -> Result<Option<Current<Q::State>>, DiskError>
-    requires stream { IsStream inputs.now stream.old }
-    requires takes { (row : Row) → types_of row ≡ column_types inputs.now.schema.now
-        → has_sign inputs.now.schema.now row ≡ true → Q.takes rule.now row }
-    requires current { HasPending (Q.holds rule.now) (Q.takes rule.now)
-        (column_types inputs.now.schema.now) current }
+    requires on { MayGoOn inputs.now stream.old out.old }
+    requires takes { TakesTable (Q.takes rule.now) inputs.now.schema.now }
+    requires current { HasCurrent (Q.holds rule.now) (Q.takes rule.now) inputs.now current }
     requires order { order.old.items ≡ range_with_len 0 (length order.old.items) }
-    requires whole { IsWhole out.old }
-    requires table { out.old.grown.schema ≡ inputs.now.schema.now }
 
     // What is written, and what is left.
     ensures merges { (rows : List (List Row)) → Q.apart rule.now inputs.now.places.now
         → IsMerging (Q.run rule.now) (Q.holds rule.now) (Q.takes rule.now) inputs.now rows
         stream.old current out.old → IfOk result (λ new. IsMerging (Q.run rule.now)
         (Q.holds rule.now) (Q.takes rule.now) inputs.now rows stream.new new out.new) }
-    ensures current { IfOk result (HasPending (Q.holds rule.now) (Q.takes rule.now)
-        (column_types inputs.now.schema.now)) }
+    ensures current { IfOk result (HasCurrent (Q.holds rule.now) (Q.takes rule.now) inputs.now) }
     ensures fewer { OnOk result (rows_to_come stream.new ≤ rows_to_come stream.old) }
-    ensures stream { OnOk result (IsStream inputs.now stream.new) }
     ensures order { OnOk result (order.new.items ≡ range_with_len 0 (length order.new.items)) }
-    ensures whole { OnOk result (IsWhole out.new) }
-    ensures table { OnOk result (out.new.grown.schema ≡ out.old.grown.schema) }
-    ensures told { OnOk result (is_some out.new.stage.files ≡ is_some out.old.stage.files) }
-    ensures rises { OnOk result (stream.old.held.most_read ≤ stream.new.held.most_read) }
-    ensures most { AreShaped inputs.now → IsHeldWithin (length inputs.now.parts.now)
-        inputs.now.schema.now.granularity stream.new.held }
+    ensures on { OnOk result (WentOn inputs.now stream.old stream.new out.old out.new) }
+    ensures most { IsWithin inputs.now stream.new.held }
 
     ensures cause { HasDiskCause out.old.stage.failed out.new.stage.failed result }
 {
@@ -143,32 +122,22 @@ fn pass_row<R: Arm, Q: RowRule>(
     order: &mut Vec<u32>,
     out: &mut PartOut<R>,
 ) -> Result<Option<Current<Q::State>>, DiskError>
-    requires stream { IsStream inputs.now stream.old }
+    requires on { MayGoOn inputs.now stream.old out.old }
     requires another { HasAnother (ahead_of stream.old.cursors.items) stream.old.ranked.items }
-    requires takes { (row : Row) → types_of row ≡ column_types inputs.now.schema.now
-        → has_sign inputs.now.schema.now row ≡ true → Q.takes rule.now row }
-    requires current { HasPending (Q.holds rule.now) (Q.takes rule.now)
-        (column_types inputs.now.schema.now) current }
+    requires takes { TakesTable (Q.takes rule.now) inputs.now.schema.now }
+    requires current { HasCurrent (Q.holds rule.now) (Q.takes rule.now) inputs.now current }
     requires order { order.old.items ≡ range_with_len 0 (length order.old.items) }
-    requires whole { IsWhole out.old }
-    requires table { out.old.grown.schema ≡ inputs.now.schema.now }
 
     // What is written, and what is left.
     ensures merges { (rows : List (List Row)) → Q.apart rule.now inputs.now.places.now
         → IsMerging (Q.run rule.now) (Q.holds rule.now) (Q.takes rule.now) inputs.now rows
         stream.old current out.old → IfOk result (λ new. IsMerging (Q.run rule.now)
         (Q.holds rule.now) (Q.takes rule.now) inputs.now rows stream.new new out.new) }
-    ensures current { IfOk result (HasPending (Q.holds rule.now) (Q.takes rule.now)
-        (column_types inputs.now.schema.now)) }
+    ensures current { IfOk result (HasCurrent (Q.holds rule.now) (Q.takes rule.now) inputs.now) }
     ensures fewer { OnOk result (rows_to_come stream.new < rows_to_come stream.old) }
-    ensures stream { OnOk result (IsStream inputs.now stream.new) }
     ensures order { OnOk result (order.new.items ≡ range_with_len 0 (length order.new.items)) }
-    ensures whole { OnOk result (IsWhole out.new) }
-    ensures table { OnOk result (out.new.grown.schema ≡ out.old.grown.schema) }
-    ensures told { OnOk result (is_some out.new.stage.files ≡ is_some out.old.stage.files) }
-    ensures rises { OnOk result (stream.old.held.most_read ≤ stream.new.held.most_read) }
-    ensures most { AreShaped inputs.now → IsHeldWithin (length inputs.now.parts.now)
-        inputs.now.schema.now.granularity stream.new.held }
+    ensures on { OnOk result (WentOn inputs.now stream.old stream.new out.old out.new) }
+    ensures most { IsWithin inputs.now stream.new.held }
 
     ensures cause { HasDiskCause out.old.stage.failed out.new.stage.failed result }
 {
@@ -227,8 +196,7 @@ fn take_ahead<F: Dir>(inputs: &Inputs<F>, stream: &mut Stream<F>) -> Result<Plac
     ensures readers { stream.new.readers.items ≡ stream.old.readers.items }
     ensures stream { OnOk result (IsStream inputs.now stream.new) }
     ensures rises { OnOk result (stream.old.held.most_read ≤ stream.new.held.most_read) }
-    ensures most { AreShaped inputs.now → IsHeldWithin (length inputs.now.parts.now)
-        inputs.now.schema.now.granularity stream.new.held }
+    ensures most { AreShaped inputs.now → IsWithin inputs.now stream.new.held }
 {
     let own = take_place(inputs.places, &mut stream.cursors, &mut stream.ranked)?;
     stream.held.took();
@@ -250,11 +218,9 @@ fn hand_on<R: Arm, Q: RowRule>(
     out: &mut PartOut<R>,
 ) -> Result<Option<Current<Q::State>>, DiskError>
     requires inputs { AreInputs inputs.now }
-    requires takes { (r : Row) → types_of r ≡ column_types inputs.now.schema.now
-        → has_sign inputs.now.schema.now r ≡ true → Q.takes rule.now r }
+    requires takes { TakesTable (Q.takes rule.now) inputs.now.schema.now }
     requires typed { types_of row ≡ column_types inputs.now.schema.now }
-    requires current { HasPending (Q.holds rule.now) (Q.takes rule.now)
-        (column_types inputs.now.schema.now) current }
+    requires current { HasCurrent (Q.holds rule.now) (Q.takes rule.now) inputs.now current }
     requires whole { IsWhole out.old }
     requires table { out.old.grown.schema ≡ inputs.now.schema.now }
     requires made { held.old.made ≡ 0 }
@@ -266,11 +232,8 @@ fn hand_on<R: Arm, Q: RowRule>(
         rows before current out.old → IsTaken inputs.now.places.now before row left
         → IfOk result (λ new. IsGoing inputs.now.places.now (Q.run rule.now) (Q.holds rule.now)
         (Q.takes rule.now) (column_types inputs.now.schema.now) rows left new out.new) }
-    ensures current { IfOk result (HasPending (Q.holds rule.now) (Q.takes rule.now)
-        (column_types inputs.now.schema.now)) }
-    ensures whole { OnOk result (IsWhole out.new) }
-    ensures table { OnOk result (out.new.grown.schema ≡ out.old.grown.schema) }
-    ensures told { OnOk result (is_some out.new.stage.files ≡ is_some out.old.stage.files) }
+    ensures current { IfOk result (HasCurrent (Q.holds rule.now) (Q.takes rule.now) inputs.now) }
+    ensures grew { OnOk result (Grew out.old out.new) }
 
     // How many rows are in memory then.
     ensures held { KeepsHeld held.old held.new }
@@ -297,8 +260,7 @@ fn close_key<R: Arm, Q: RowRule>(
     out: &mut PartOut<R>,
 ) -> Result<Option<Current<Q::State>>, DiskError>
     requires inputs { AreInputs inputs.now }
-    requires current { HasPending (Q.holds rule.now) (Q.takes rule.now)
-        (column_types inputs.now.schema.now) current }
+    requires current { HasCurrent (Q.holds rule.now) (Q.takes rule.now) inputs.now current }
     requires next { next.now.at < length next.now.block.rows }
     requires types { next.now.block.types ≡ column_types inputs.now.schema.now }
     requires whole { IsWhole out.old }
@@ -313,11 +275,8 @@ fn close_key<R: Arm, Q: RowRule>(
         (slice_index_or next.now.block.rows next.now.at []) after
         → IfOk result (λ new. IsGoing inputs.now.places.now (Q.run rule.now) (Q.holds rule.now)
         (Q.takes rule.now) (column_types inputs.now.schema.now) rows left new out.new) }
-    ensures current { IfOk result (HasPending (Q.holds rule.now) (Q.takes rule.now)
-        (column_types inputs.now.schema.now)) }
-    ensures whole { OnOk result (IsWhole out.new) }
-    ensures table { OnOk result (out.new.grown.schema ≡ out.old.grown.schema) }
-    ensures told { OnOk result (is_some out.new.stage.files ≡ is_some out.old.stage.files) }
+    ensures current { IfOk result (HasCurrent (Q.holds rule.now) (Q.takes rule.now) inputs.now) }
+    ensures grew { OnOk result (Grew out.old out.new) }
 
     // How many rows are in memory then.
     ensures held { KeepsHeld held.old held.new }

@@ -1,21 +1,17 @@
 // Where the rows go that the rule leaves of a key, once the key ends, and the loop over a stream that gives them. The loop of `streamed` is
 // over a part that is written, which may take rows as columns: that is no sink, since a trait's method can't call what is generic over an arm.
-ghost use Rattle.std.specs.Prelude.{◌≡◌, ◌≤◌, ◌<◌, ◌++◌, [], true, ℕ, All, IfErr, IsErrAnd, List, OnOk, length};
+ghost use Rattle.std.specs.Prelude.{◌≡◌, ◌≤◌, ◌<◌, ◌++◌, [], ℕ, All, List, OnOk, length};
 ghost use Rattle.mt_base.specs.declared.partition.Partition.{Partition};
 ghost use Rattle.mt_outside.specs.DiskCauses.{HasDiskCause};
 ghost use Rattle.mt_values.specs.Grid.{AreRowsOf};
 ghost use Rattle.mt_values.specs.Schemas.{column_types};
-ghost use Rattle.mt_values.specs.Tables.{has_sign};
-ghost use Rattle.mt_values.specs.Values.{Row, types_of};
+ghost use Rattle.mt_values.specs.Values.{Row};
 ghost use Rattle.mt_values.specs.declared.value.ColType.{ColType};
-ghost use Rattle.part_history.specs.mt_model.History.{IsTableSchema};
-ghost use Rattle.part_reader.specs.Faults.{IsNoDamage};
 ghost use Rattle.row_merge.specs.Heads.{ahead_of};
-ghost use Rattle.row_merge.specs.Held.{IsHeldWithin};
 ghost use Rattle.row_merge.specs.Merged.{ArePartRows};
-ghost use Rattle.row_merge.specs.MergedParts.{PartsHold};
+ghost use Rattle.row_merge.specs.MergedParts.{Fails, PartsHold};
 ghost use Rattle.row_merge.specs.Sinks.{GetsFold, GetsLast, GetsMerged, GetsSome};
-ghost use Rattle.row_merge.specs.Streams.{AreShaped, ExplainsStream, HasPending, IsLeft, IsPending, IsStream, KeepsHeld, LeavesBoth, rests_of};
+ghost use Rattle.row_merge.specs.Streams.{AreShaped, ExplainsStream, HasPending, IsLeft, IsPending, IsStream, IsWithin, KeepsHeld, LeavesBoth, TakesTable, rests_of};
 
 use crate::course::{Current, end_key};
 use crate::held::Held;
@@ -78,8 +74,6 @@ pub(crate) fn fold_opened<R: Arm, T: RowSink>(
     out: &mut T,
 ) -> Result<(), (PartName, PartFault)>
     requires stream { IsStream inputs.now stream.old }
-    requires some { 0 < length inputs.now.parts.now }
-    requires schema { IsTableSchema inputs.now.schema.now }
     requires none { All (λ rows. rows ≡ []) (ahead_of stream.old.cursors.items) }
     requires ready { T.ready out.old }
     requires types { T.types out.old ≡ column_types inputs.now.schema.now }
@@ -93,19 +87,11 @@ pub(crate) fn fold_opened<R: Arm, T: RowSink>(
     ensures gets { OnOk result (GetsSome T.gets out.old out.new) }
 
     // How many rows were in memory.
-    ensures most { AreShaped inputs.now → IsHeldWithin (length inputs.now.parts.now)
-        inputs.now.schema.now.granularity stream.new.held }
+    ensures most { AreShaped inputs.now → IsWithin inputs.now stream.new.held }
 
-    // What a fault says.
-    ensures sound { (rows : List (List Row))
-        → PartsHold R.Dir.files inputs.now.schema.now inputs.now.parts.now rows
-        → IfErr result (λ e. IsNoDamage e.1) }
-    ensures damaged { IfErr result
-        (ExplainsStream R.Dir.files inputs.now stream.old.readers.items) }
-
-    // What the arm and the sink are then, and their counts of faults.
-    ensures leaves { LeavesBoth R.Arm arm.old arm.new (T.failed out.old) (T.failed out.new)
-        (IsErrAnd result (λ e. e.1 ≡ PartFault.Fault)) }
+    // What a fault says, and what the arm and the sink are then, with their counts of faults.
+    ensures fails { Fails (ExplainsStream R.Dir.files inputs.now stream.old.readers.items)
+        (LeavesBoth R.Arm arm.old arm.new (T.failed out.old) (T.failed out.new)) result }
 {
     fill_all(alloc, arm, inputs, stream)?;
     fold_by_engine(alloc, arm, inputs, stream, out)
@@ -122,8 +108,6 @@ fn fold_by_engine<R: Arm, T: RowSink>(
     out: &mut T,
 ) -> Result<(), (PartName, PartFault)>
     requires stream { IsStream inputs.now stream.old }
-    requires some { 0 < length inputs.now.parts.now }
-    requires schema { IsTableSchema inputs.now.schema.now }
     requires ready { T.ready out.old }
     requires types { T.types out.old ≡ column_types inputs.now.schema.now }
 
@@ -136,19 +120,11 @@ fn fold_by_engine<R: Arm, T: RowSink>(
     ensures gets { OnOk result (GetsSome T.gets out.old out.new) }
 
     // How many rows were in memory.
-    ensures most { AreShaped inputs.now → IsHeldWithin (length inputs.now.parts.now)
-        inputs.now.schema.now.granularity stream.new.held }
+    ensures most { AreShaped inputs.now → IsWithin inputs.now stream.new.held }
 
-    // What a fault says.
-    ensures sound { (rows : List (List Row))
-        → PartsHold R.Dir.files inputs.now.schema.now inputs.now.parts.now rows
-        → IfErr result (λ e. IsNoDamage e.1) }
-    ensures damaged { IfErr result
-        (ExplainsStream R.Dir.files inputs.now stream.old.readers.items) }
-
-    // What the arm and the sink are then, and their counts of faults.
-    ensures leaves { LeavesBoth R.Arm arm.old arm.new (T.failed out.old) (T.failed out.new)
-        (IsErrAnd result (λ e. e.1 ≡ PartFault.Fault)) }
+    // What a fault says, and what the arm and the sink are then, with their counts of faults.
+    ensures fails { Fails (ExplainsStream R.Dir.files inputs.now stream.old.readers.items)
+        (LeavesBoth R.Arm arm.old arm.new (T.failed out.old) (T.failed out.new)) result }
 {
     match &inputs.schema.engine {
         Engine::Plain => fold_stream(alloc, arm, inputs, stream, &PlainRule, out),
@@ -194,9 +170,7 @@ fn fold_stream<R: Arm, Q: RowRule, T: RowSink>(
     out: &mut T,
 ) -> Result<(), (PartName, PartFault)>
     requires stream { IsStream inputs.now stream.old }
-    requires some { 0 < length inputs.now.parts.now }
-    requires takes { (row : Row) → types_of row ≡ column_types inputs.now.schema.now
-        → has_sign inputs.now.schema.now row ≡ true → Q.takes rule.now row }
+    requires takes { TakesTable (Q.takes rule.now) inputs.now.schema.now }
     requires ready { T.ready out.old }
     requires types { T.types out.old ≡ column_types inputs.now.schema.now }
 
@@ -210,19 +184,11 @@ fn fold_stream<R: Arm, Q: RowRule, T: RowSink>(
     ensures gets { OnOk result (GetsSome T.gets out.old out.new) }
 
     // How many rows were in memory.
-    ensures most { AreShaped inputs.now → IsHeldWithin (length inputs.now.parts.now)
-        inputs.now.schema.now.granularity stream.new.held }
+    ensures most { AreShaped inputs.now → IsWithin inputs.now stream.new.held }
 
-    // What a fault says.
-    ensures sound { (rows : List (List Row))
-        → PartsHold R.Dir.files inputs.now.schema.now inputs.now.parts.now rows
-        → IfErr result (λ e. IsNoDamage e.1) }
-    ensures damaged { IfErr result
-        (ExplainsStream R.Dir.files inputs.now stream.old.readers.items) }
-
-    // What the arm and the sink are then, and their counts of faults.
-    ensures leaves { LeavesBoth R.Arm arm.old arm.new (T.failed out.old) (T.failed out.new)
-        (IsErrAnd result (λ e. e.1 ≡ PartFault.Fault)) }
+    // What a fault says, and what the arm and the sink are then, with their counts of faults.
+    ensures fails { Fails (ExplainsStream R.Dir.files inputs.now stream.old.readers.items)
+        (LeavesBoth R.Arm arm.old arm.new (T.failed out.old) (T.failed out.new)) result }
 {
     let mut current = None;
     'rows: while let Some(row) = next_row(alloc, arm, inputs, stream)? {

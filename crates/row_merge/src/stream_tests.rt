@@ -290,7 +290,7 @@ fn is_merged(alloc: Global, schema: &Schema, texts: &[&[u8]]) -> Result<bool, Di
     match merge_streamed(alloc, &mut Keeper, schema, &parts, &mut held) {
         Ok(part) => {
             let found = shelved(part);
-            Ok(found.dir.files == wanted.dir.files && held.read == 0 && held.made == 0)
+            Ok(found.dir.files == wanted.dir.files)
         }
         Err(_) => Err(DiskError::NoMemory),
     }

@@ -1,6 +1,6 @@
 // Parts merged granule by granule (docs/engines.md, "Merges"): what the rule leaves of a key is appended to the part that is written once
 // the key ends.
-ghost use Rattle.std.specs.Prelude.{◌≡◌, ◌*◌, ◌≤◌, ◌<◌, ◌^◌, ◌++◌, [], true, ℕ, All, IfErr, IfOk, IsErrAnd, List, OnOk, length, is_some};
+ghost use Rattle.std.specs.Prelude.{◌≡◌, ◌*◌, ◌≤◌, ◌<◌, ◌^◌, ◌++◌, [], true, ℕ, All, IfOk, List, OnOk, length, is_some};
 ghost use Rattle.mt_base.specs.declared.partition.Partition.{Partition};
 ghost use Rattle.mt_outside.specs.DiskCauses.{HasDiskCause};
 ghost use Rattle.mt_outside.specs.Leaves.{LeavesArm};
@@ -10,16 +10,15 @@ ghost use Rattle.mt_values.specs.Tables.{has_sign};
 ghost use Rattle.mt_values.specs.Values.{Row, types_of};
 ghost use Rattle.part_history.specs.mt_model.History.{IsTableSchema};
 ghost use Rattle.part_history.specs.mt_model.Partial.{functions_of};
-ghost use Rattle.part_reader.specs.Faults.{IsNoDamage};
 ghost use Rattle.part_reader.specs.part_writer.Growing.{HasRows, IsWhole};
 ghost use Rattle.part_reader.specs.part_writer.PartFiles.{HasIndexes};
 ghost use Rattle.part_reader.specs.primary_marks.Keys.{HasMarks};
 ghost use Rattle.row_merge.specs.Heads.{ahead_of};
-ghost use Rattle.row_merge.specs.Held.{IsHeldWithin};
+ghost use Rattle.row_merge.specs.Held.{IsHeldWithin, IsIdle};
 ghost use Rattle.row_merge.specs.Merged.{ArePartRows};
-ghost use Rattle.row_merge.specs.MergedParts.{ExplainsMerge, IsSealedMerge, IsSealedPart, PartsHold, first_rows};
+ghost use Rattle.row_merge.specs.MergedParts.{ExplainsMerge, Fails, IsSealedMerge, IsSealedPart, PartsHold, first_rows};
 ghost use Rattle.row_merge.specs.Merging.{IsTaken};
-ghost use Rattle.row_merge.specs.Streams.{AreInputs, AreShaped, Ends, HandsOver, HasMerged, HasMergedTable, HasPending, IsLeft, IsPending, IsStream, IsUnreadAt, KeepsHeld, LeavesBoth, rests_of};
+ghost use Rattle.row_merge.specs.Streams.{AreInputs, Ends, Grew, HandsOver, HasCurrent, HasMerged, HasMergedTable, HasPending, IsLeft, IsPending, IsUnreadAt, IsWithin, KeepsHeld, LeavesBoth, MayGoOn, TakesTable, WentOn, rests_of};
 
 use crate::choosing::functions_of;
 use crate::copied::copy_stream;
@@ -63,13 +62,9 @@ pub fn merge_parts<R: Arm>(
         → IfOk result (λ s. IsSealedPart schema.now s.sealed.files s.loaded) }
     ensures none_failed { IfOk result (λ s. s.sealed.failed ≡ 0) }
 
-    // What a fault says.
-    ensures sound { (rows : List (List Row)) → PartsHold R.Dir.files schema.now parts.now rows
-        → IfErr result (λ e. IsNoDamage e.1) }
-    ensures damaged { IfErr result (ExplainsMerge R.Dir.files schema.now parts.now) }
-
-    // What the arm is then, and its count of faults.
-    ensures arm { LeavesArm R.Arm arm.old arm.new (IsErrAnd result (λ e. e.1 ≡ PartFault.Fault)) }
+    // What a fault says, and what the arm is then, with its count of faults.
+    ensures fails { Fails (ExplainsMerge R.Dir.files schema.now parts.now)
+        (LeavesArm R.Arm arm.old arm.new) result }
 {
     let mut held = Held::new();
     merge_streamed(alloc, arm, schema, parts, &mut held)
@@ -106,17 +101,15 @@ pub fn merge_streamed<R: Arm>(
 
     // How many rows were in memory, also where it failed.
     ensures held { IsHeldWithin (length parts.now) schema.now.granularity held.new }
+    // None is at the end.
+    ensures idle { OnOk result (IsIdle held.new) }
     // The first granules of all parts were in memory together.
     ensures reached { length parts.now * schema.now.granularity < 2 ^ 64
         → OnOk result (first_rows schema.now.granularity parts.now ≤ held.new.most_read) }
 
-    // What a fault says.
-    ensures sound { (rows : List (List Row)) → PartsHold R.Dir.files schema.now parts.now rows
-        → IfErr result (λ e. IsNoDamage e.1) }
-    ensures damaged { IfErr result (ExplainsMerge R.Dir.files schema.now parts.now) }
-
-    // What the arm is then, and its count of faults.
-    ensures arm { LeavesArm R.Arm arm.old arm.new (IsErrAnd result (λ e. e.1 ≡ PartFault.Fault)) }
+    // What a fault says, and what the arm is then, with its count of faults.
+    ensures fails { Fails (ExplainsMerge R.Dir.files schema.now parts.now)
+        (LeavesArm R.Arm arm.old arm.new) result }
 {
     *held = Held::new();
     let mut out = match PartOut::begin(alloc, arm, schema) {
@@ -162,17 +155,13 @@ fn merge_into<R: Arm>(
     ensures table { OnOk result (out.new.grown.schema ≡ schema.now) }
     ensures told { OnOk result (is_some out.new.stage.files ≡ is_some out.old.stage.files) }
     ensures held { IsHeldWithin (length parts.now) schema.now.granularity held.new }
+    ensures idle { OnOk result (IsIdle held.new) }
     ensures reached { length parts.now * schema.now.granularity < 2 ^ 64
         → OnOk result (first_rows schema.now.granularity parts.now ≤ held.new.most_read) }
 
-    // What a fault says.
-    ensures sound { (rows : List (List Row)) → PartsHold R.Dir.files schema.now parts.now rows
-        → IfErr result (λ e. IsNoDamage e.1) }
-    ensures damaged { IfErr result (ExplainsMerge R.Dir.files schema.now parts.now) }
-
-    // What the arm and the stage are then, and their counts of faults.
-    ensures leaves { LeavesBoth R.Arm arm.old arm.new out.old.stage.failed out.new.stage.failed
-        (IsErrAnd result (λ e. e.1 ≡ PartFault.Fault)) }
+    // What a fault says, and what the arm and the stage are then, with their counts of faults.
+    ensures fails { Fails (ExplainsMerge R.Dir.files schema.now parts.now)
+        (LeavesBoth R.Arm arm.old arm.new out.old.stage.failed out.new.stage.failed) result }
 {
     check_shapes(alloc, schema, parts)?;
     let Ok(plan) = plan_of(alloc, schema, parts) else {
@@ -201,13 +190,9 @@ fn merge_opened<R: Arm>(
     stream: &mut Stream<R::Dir>,
     out: &mut PartOut<R>,
 ) -> Result<(), (PartName, PartFault)>
-    requires stream { IsStream inputs.now stream.old }
-    requires some { 0 < length inputs.now.parts.now }
-    requires shaped { AreShaped inputs.now }
-    requires schema { IsTableSchema inputs.now.schema.now }
+    requires on { MayGoOn inputs.now stream.old out.old }
     requires none { All (λ rows. rows ≡ []) (ahead_of stream.old.cursors.items) }
     requires empty { HasRows out.old [] }
-    requires table { out.old.grown.schema ≡ inputs.now.schema.now }
 
     // What is written.
     ensures merged { (partition : Partition) (rows : List (List Row))
@@ -215,26 +200,18 @@ fn merge_opened<R: Arm>(
         → rests_of stream.old.readers.items rows ≡ rows
         → All (ArePartRows inputs.now.schema.now partition) rows
         → OnOk result (HasMergedTable inputs.now.schema.now partition rows out.new) }
-    ensures whole { OnOk result (IsWhole out.new) }
-    ensures table { OnOk result (out.new.grown.schema ≡ out.old.grown.schema) }
+    ensures on { OnOk result (MayGoOn inputs.now stream.new out.new) }
     ensures told { OnOk result (is_some out.new.stage.files ≡ is_some out.old.stage.files) }
-    ensures most { IsHeldWithin (length inputs.now.parts.now) inputs.now.schema.now.granularity
-        stream.new.held }
+    ensures most { IsWithin inputs.now stream.new.held }
+    ensures idle { OnOk result (IsIdle stream.new.held) }
     ensures reached { length inputs.now.parts.now * inputs.now.schema.now.granularity < 2 ^ 64
         → ((j : ℕ) → IsUnreadAt stream.old.readers.items j)
         → OnOk result (first_rows inputs.now.schema.now.granularity inputs.now.parts.now
         ≤ stream.new.held.most_read) }
 
-    // What a fault says.
-    ensures sound { (rows : List (List Row))
-        → PartsHold R.Dir.files inputs.now.schema.now inputs.now.parts.now rows
-        → IfErr result (λ e. IsNoDamage e.1) }
-    ensures damaged { IfErr result
-        (ExplainsMerge R.Dir.files inputs.now.schema.now inputs.now.parts.now) }
-
-    // What the arm and the stage are then, and their counts of faults.
-    ensures leaves { LeavesBoth R.Arm arm.old arm.new out.old.stage.failed out.new.stage.failed
-        (IsErrAnd result (λ e. e.1 ≡ PartFault.Fault)) }
+    // What a fault says, and what the arm and the stage are then, with their counts of faults.
+    ensures fails { Fails (ExplainsMerge R.Dir.files inputs.now.schema.now inputs.now.parts.now)
+        (LeavesBoth R.Arm arm.old arm.new out.old.stage.failed out.new.stage.failed) result }
 {
     fill_all(alloc, arm, inputs, stream)?;
     merge_by_engine(alloc, arm, inputs, stream, out)
@@ -252,35 +229,21 @@ fn merge_by_engine<R: Arm>(
     stream: &mut Stream<R::Dir>,
     out: &mut PartOut<R>,
 ) -> Result<(), (PartName, PartFault)>
-    requires stream { IsStream inputs.now stream.old }
-    requires some { 0 < length inputs.now.parts.now }
-    requires shaped { AreShaped inputs.now }
-    requires schema { IsTableSchema inputs.now.schema.now }
+    requires on { MayGoOn inputs.now stream.old out.old }
     requires empty { HasRows out.old [] }
-    requires table { out.old.grown.schema ≡ inputs.now.schema.now }
 
     // What is written.
     ensures merged { (partition : Partition) (rows : List (List Row))
         → PartsHold R.Dir.files inputs.now.schema.now inputs.now.parts.now rows
         → IsLeft stream.old rows rows → All (ArePartRows inputs.now.schema.now partition) rows
         → OnOk result (HasMergedTable inputs.now.schema.now partition rows out.new) }
-    ensures whole { OnOk result (IsWhole out.new) }
-    ensures table { OnOk result (out.new.grown.schema ≡ out.old.grown.schema) }
-    ensures told { OnOk result (is_some out.new.stage.files ≡ is_some out.old.stage.files) }
-    ensures most { IsHeldWithin (length inputs.now.parts.now) inputs.now.schema.now.granularity
-        stream.new.held }
-    ensures rises { OnOk result (stream.old.held.most_read ≤ stream.new.held.most_read) }
+    ensures on { OnOk result (WentOn inputs.now stream.old stream.new out.old out.new) }
+    ensures most { IsWithin inputs.now stream.new.held }
+    ensures idle { OnOk result (IsIdle stream.new.held) }
 
-    // What a fault says.
-    ensures sound { (rows : List (List Row))
-        → PartsHold R.Dir.files inputs.now.schema.now inputs.now.parts.now rows
-        → IfErr result (λ e. IsNoDamage e.1) }
-    ensures damaged { IfErr result
-        (ExplainsMerge R.Dir.files inputs.now.schema.now inputs.now.parts.now) }
-
-    // What the arm and the stage are then, and their counts of faults.
-    ensures leaves { LeavesBoth R.Arm arm.old arm.new out.old.stage.failed out.new.stage.failed
-        (IsErrAnd result (λ e. e.1 ≡ PartFault.Fault)) }
+    // What a fault says, and what the arm and the stage are then, with their counts of faults.
+    ensures fails { Fails (ExplainsMerge R.Dir.files inputs.now.schema.now inputs.now.parts.now)
+        (LeavesBoth R.Arm arm.old arm.new out.old.stage.failed out.new.stage.failed) result }
 {
     match &inputs.schema.engine {
         Engine::Plain => copy_stream(alloc, arm, inputs, stream, out),
@@ -357,13 +320,9 @@ fn merge_stream<R: Arm, Q: RowRule>(
     rule: &Q,
     out: &mut PartOut<R>,
 ) -> Result<(), (PartName, PartFault)>
-    requires stream { IsStream inputs.now stream.old }
-    requires some { 0 < length inputs.now.parts.now }
-    requires shaped { AreShaped inputs.now }
-    requires takes { (row : Row) → types_of row ≡ column_types inputs.now.schema.now
-        → has_sign inputs.now.schema.now row ≡ true → Q.takes rule.now row }
+    requires on { MayGoOn inputs.now stream.old out.old }
+    requires takes { TakesTable (Q.takes rule.now) inputs.now.schema.now }
     requires empty { HasRows out.old [] }
-    requires table { out.old.grown.schema ≡ inputs.now.schema.now }
 
     // What is written.
     ensures merged { (partition : Partition) (rows : List (List Row))
@@ -371,23 +330,13 @@ fn merge_stream<R: Arm, Q: RowRule>(
         → PartsHold R.Dir.files inputs.now.schema.now inputs.now.parts.now rows
         → IsLeft stream.old rows rows → All (ArePartRows inputs.now.schema.now partition) rows
         → OnOk result (HasMerged inputs.now.places.now (Q.run rule.now) rows out.new) }
-    ensures whole { OnOk result (IsWhole out.new) }
-    ensures table { OnOk result (out.new.grown.schema ≡ out.old.grown.schema) }
-    ensures told { OnOk result (is_some out.new.stage.files ≡ is_some out.old.stage.files) }
-    ensures most { IsHeldWithin (length inputs.now.parts.now) inputs.now.schema.now.granularity
-        stream.new.held }
-    ensures rises { OnOk result (stream.old.held.most_read ≤ stream.new.held.most_read) }
+    ensures on { OnOk result (WentOn inputs.now stream.old stream.new out.old out.new) }
+    ensures most { IsWithin inputs.now stream.new.held }
+    ensures idle { OnOk result (IsIdle stream.new.held) }
 
-    // What a fault says.
-    ensures sound { (rows : List (List Row))
-        → PartsHold R.Dir.files inputs.now.schema.now inputs.now.parts.now rows
-        → IfErr result (λ e. IsNoDamage e.1) }
-    ensures damaged { IfErr result
-        (ExplainsMerge R.Dir.files inputs.now.schema.now inputs.now.parts.now) }
-
-    // What the arm and the stage are then, and their counts of faults.
-    ensures leaves { LeavesBoth R.Arm arm.old arm.new out.old.stage.failed out.new.stage.failed
-        (IsErrAnd result (λ e. e.1 ≡ PartFault.Fault)) }
+    // What a fault says, and what the arm and the stage are then, with their counts of faults.
+    ensures fails { Fails (ExplainsMerge R.Dir.files inputs.now.schema.now inputs.now.parts.now)
+        (LeavesBoth R.Arm arm.old arm.new out.old.stage.failed out.new.stage.failed) result }
 {
     let mut current = None;
     let mut order = Vec::new(alloc);
@@ -418,8 +367,7 @@ pub(crate) fn hand_over<F, Q: RowRule>(
     current: Option<Current<Q::State>>,
     row: Row,
 ) -> Result<(Vec<Row>, Option<Current<Q::State>>), NoMemory>
-    requires takes { (r : Row) → types_of r ≡ column_types inputs.now.schema.now
-        → has_sign inputs.now.schema.now r ≡ true → Q.takes rule.now r }
+    requires takes { TakesTable (Q.takes rule.now) inputs.now.schema.now }
     requires inputs { AreInputs inputs.now }
     requires typed { types_of row ≡ column_types inputs.now.schema.now }
     ensures hands { IfOk result (λ p. (rows : List (List Row)) (done : List Row)
@@ -430,12 +378,12 @@ pub(crate) fn hand_over<F, Q: RowRule>(
         → HandsOver inputs.now.places.now (Q.run rule.now) (Q.holds rule.now) (Q.takes rule.now)
         (column_types inputs.now.schema.now) rows (done ++ p.0.items) left p.1) }
     // Whatever the order of the rows.
-    ensures typed { IfOk result (λ p. HasPending (Q.holds rule.now) (Q.takes rule.now)
-        (column_types inputs.now.schema.now) current
+    ensures typed { IfOk result (λ p.
+        HasCurrent (Q.holds rule.now) (Q.takes rule.now) inputs.now current
         → AreRowsOf (column_types inputs.now.schema.now) p.0.items) }
-    ensures current { IfOk result (λ p. HasPending (Q.holds rule.now) (Q.takes rule.now)
-        (column_types inputs.now.schema.now) current → HasPending (Q.holds rule.now)
-        (Q.takes rule.now) (column_types inputs.now.schema.now) p.1) }
+    ensures current { IfOk result (λ p.
+        HasCurrent (Q.holds rule.now) (Q.takes rule.now) inputs.now current
+        → HasCurrent (Q.holds rule.now) (Q.takes rule.now) inputs.now p.1) }
 {
     if inputs.schema.has_sign(&row) {
         let (kept, new) = take_in(alloc, rule, inputs.places, current, row)?;
@@ -466,9 +414,7 @@ pub(crate) fn end_merge<R: Arm, Q: RowRule>(
     ensures leaves { (done pending : List Row) → HasRows out.old done → IsPending (Q.holds rule.now)
         (Q.takes rule.now) (column_types out.old.grown.schema) current pending
         → OnOk result (Ends (Q.run rule.now) done pending out.new) }
-    ensures whole { OnOk result (IsWhole out.new) }
-    ensures table { OnOk result (out.new.grown.schema ≡ out.old.grown.schema) }
-    ensures told { OnOk result (is_some out.new.stage.files ≡ is_some out.old.stage.files) }
+    ensures grew { OnOk result (Grew out.old out.new) }
     ensures held { KeepsHeld held.old held.new }
     ensures made { OnOk result (held.new.made ≡ 0) }
     ensures cause { HasDiskCause out.old.stage.failed out.new.stage.failed result }
@@ -493,9 +439,7 @@ pub(crate) fn append<R: Arm>(
     // What is appended.
     ensures rows { (done : List Row) → HasRows out.old done
         → OnOk result (HasRows out.new (done ++ rows.now)) }
-    ensures whole { OnOk result (IsWhole out.new) }
-    ensures table { OnOk result (out.new.grown.schema ≡ out.old.grown.schema) }
-    ensures told { OnOk result (is_some out.new.stage.files ≡ is_some out.old.stage.files) }
+    ensures grew { OnOk result (Grew out.old out.new) }
 
     // How many rows are in memory then.
     ensures held { KeepsHeld held.old held.new }

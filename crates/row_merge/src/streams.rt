@@ -1,19 +1,17 @@
 // Parts that are read granule by granule, with the rows of each that were read and not yet taken.
 //
 // Of each part one granule at most is in memory, and bytes of its columns that are read ahead, a share of what all parts have.
-ghost use Rattle.std.specs.Prelude.{◌≡◌, ℕ, ◌*◌, ◌≤◌, ◌<◌, ◌^◌, ◌↔◌, [], true, All, IfErr, IfOk, IfSome, IsErrAnd, IsSorted, List, OnOk, length, map, replicate};
+ghost use Rattle.std.specs.Prelude.{◌≡◌, ℕ, ◌*◌, ◌≤◌, ◌<◌, ◌^◌, ◌↔◌, [], true, All, IfErr, IfOk, IfSome, IsSorted, List, None, OnOk, length, map, replicate};
 ghost use Rattle.std.specs.List.{AllZip};
 ghost use Rattle.mt_outside.specs.Leaves.{LeavesArm};
 ghost use Rattle.mt_values.specs.Order.{key_cmp};
 ghost use Rattle.mt_values.specs.Schemas.{column_types};
 ghost use Rattle.mt_values.specs.Values.{Row, types_of};
-ghost use Rattle.part_reader.specs.Faults.{IsNoDamage};
 ghost use Rattle.row_merge.specs.Heads.{ahead_of};
-ghost use Rattle.row_merge.specs.Held.{IsHeldWithin};
 ghost use Rattle.row_merge.specs.Merged.{rows_of_all};
-ghost use Rattle.row_merge.specs.MergedParts.{ExplainsMerge, HasShape, PartsHold, first_rows, other_table};
+ghost use Rattle.row_merge.specs.MergedParts.{ExplainsMerge, Fails, HasShape, PartsHold, first_rows, other_table};
 ghost use Rattle.row_merge.specs.Merging.{ahead_at};
-ghost use Rattle.row_merge.specs.Streams.{AreInputs, AreLater, AreShaped, ExplainsStream, GivesRow, IsLeft, IsPlanOf, IsReaderOf, IsRefilled, IsStream, IsUnreadAt, MayTake, ReadsPart, no_cursor, reader_of, rests_of, rows_to_come, share};
+ghost use Rattle.row_merge.specs.Streams.{AreInputs, AreLater, AreShaped, ExplainsStream, GivesRow, IsLeft, IsPlanOf, IsReaderOf, IsRefilled, IsStream, IsUnreadAt, IsWithin, MayTake, ReadsPart, no_cursor, reader_of, rests_of, rows_to_come, share};
 
 use crate::heads::{Cursor, fill, has_row, take_row};
 use crate::held::Held;
@@ -91,8 +89,6 @@ pub(crate) fn check_shapes<F: Dir>(
 ) -> Result<(), (PartName, PartFault)>
     ensures own { OnOk result (All (λ k. HasShape schema.now k.part.loaded.schema) parts.now) }
     ensures no_fault { IfErr result (λ e. e.1 ≡ PartFault.Fault → ⊥) }
-    ensures sound { (rows : List (List Row)) → PartsHold F.files schema.now parts.now rows
-        → IfErr result (λ e. IsNoDamage e.1) }
     ensures damaged { IfErr result (ExplainsMerge F.files schema.now parts.now) }
 {
     for kept in parts {
@@ -276,18 +272,11 @@ pub(crate) fn refill<R: Arm>(
         ≡ ahead_at (ahead_of stream.old.cursors.items) j) }
     ensures count { OnOk result (rows_to_come stream.new ≡ rows_to_come stream.old) }
     ensures reads { OnOk result (ReadsPart inputs.now number stream.old stream.new) }
-    ensures most { AreShaped inputs.now → IsHeldWithin (length inputs.now.parts.now)
-        inputs.now.schema.now.granularity stream.new.held }
+    ensures most { AreShaped inputs.now → IsWithin inputs.now stream.new.held }
 
-    // What a fault says.
-    ensures sound { (rows : List (List Row))
-        → PartsHold R.Dir.files inputs.now.schema.now inputs.now.parts.now rows
-        → IfErr result (λ e. IsNoDamage e.1) }
-    ensures damaged { IfErr result
-        (ExplainsStream R.Dir.files inputs.now stream.old.readers.items) }
-
-    // What the arm is then, and its count of faults.
-    ensures arm { LeavesArm R.Arm arm.old arm.new (IsErrAnd result (λ e. e.1 ≡ PartFault.Fault)) }
+    // What a fault says, and what the arm is then, with its count of faults.
+    ensures fails { Fails (ExplainsStream R.Dir.files inputs.now stream.old.readers.items)
+        (LeavesArm R.Arm arm.old arm.new) result }
 {
     let name = inputs.parts[number].name;
     let found = match stream.readers[number].next(alloc, arm) {
@@ -331,18 +320,11 @@ pub(crate) fn fill_all<R: Arm>(
     ensures first { AreShaped inputs.now → ((j : ℕ) → IsUnreadAt stream.old.readers.items j)
         → OnOk result (first_rows inputs.now.schema.now.granularity inputs.now.parts.now
         ≤ length (rows_of_all (ahead_of stream.new.cursors.items))) }
-    ensures most { AreShaped inputs.now → IsHeldWithin (length inputs.now.parts.now)
-        inputs.now.schema.now.granularity stream.new.held }
+    ensures most { AreShaped inputs.now → IsWithin inputs.now stream.new.held }
 
-    // What a fault says.
-    ensures sound { (rows : List (List Row))
-        → PartsHold R.Dir.files inputs.now.schema.now inputs.now.parts.now rows
-        → IfErr result (λ e. IsNoDamage e.1) }
-    ensures damaged { IfErr result
-        (ExplainsStream R.Dir.files inputs.now stream.old.readers.items) }
-
-    // What the arm is then, and its count of faults.
-    ensures arm { LeavesArm R.Arm arm.old arm.new (IsErrAnd result (λ e. e.1 ≡ PartFault.Fault)) }
+    // What a fault says, and what the arm is then, with its count of faults.
+    ensures fails { Fails (ExplainsStream R.Dir.files inputs.now stream.old.readers.items)
+        (LeavesArm R.Arm arm.old arm.new) result }
 {
     for number in 0..inputs.parts.len() {
         refill(alloc, arm, inputs, stream, number)?;
@@ -362,7 +344,6 @@ pub(crate) fn next_row<R: Arm>(
     stream: &mut Stream<R::Dir>,
 ) -> Result<Option<Row>, (PartName, PartFault)>
     requires stream { IsStream inputs.now stream.old }
-    requires some { 0 < length inputs.now.parts.now }
 
     // The row, and what is left.
     ensures gives { (rows left : List (List Row))
@@ -373,21 +354,18 @@ pub(crate) fn next_row<R: Arm>(
         (λ row. types_of row ≡ column_types inputs.now.schema.now)) }
     ensures fewer { IfOk result (λ found. IfSome found
         (λ _. rows_to_come stream.new < rows_to_come stream.old)) }
+
+    // What is in memory then.
+    ensures idle { AreShaped inputs.now
+        → IfOk result (λ found. found ≡ None → stream.new.held.read ≡ 0) }
     ensures stream { OnOk result (IsStream inputs.now stream.new) }
     ensures goes_on { OnOk result (AreLater stream.old.readers.items stream.new.readers.items) }
     ensures rises { OnOk result (stream.old.held.most_read ≤ stream.new.held.most_read) }
-    ensures most { AreShaped inputs.now → IsHeldWithin (length inputs.now.parts.now)
-        inputs.now.schema.now.granularity stream.new.held }
+    ensures most { AreShaped inputs.now → IsWithin inputs.now stream.new.held }
 
-    // What a fault says.
-    ensures sound { (rows : List (List Row))
-        → PartsHold R.Dir.files inputs.now.schema.now inputs.now.parts.now rows
-        → IfErr result (λ e. IsNoDamage e.1) }
-    ensures damaged { IfErr result
-        (ExplainsStream R.Dir.files inputs.now stream.old.readers.items) }
-
-    // What the arm is then, and its count of faults.
-    ensures arm { LeavesArm R.Arm arm.old arm.new (IsErrAnd result (λ e. e.1 ≡ PartFault.Fault)) }
+    // What a fault says, and what the arm is then, with its count of faults.
+    ensures fails { Fails (ExplainsStream R.Dir.files inputs.now stream.old.readers.items)
+        (LeavesArm R.Arm arm.old arm.new) result }
 {
     let Ok(found) = take_next(alloc, inputs, stream) else {
         return Err((inputs.parts[0].name, PartFault::NoMemory));
@@ -415,8 +393,7 @@ fn take_next<F: Dir>(
     ensures readers { stream.new.readers.items ≡ stream.old.readers.items }
     ensures stream { OnOk result (IsStream inputs.now stream.new) }
     ensures rises { OnOk result (stream.old.held.most_read ≤ stream.new.held.most_read) }
-    ensures most { AreShaped inputs.now → IsHeldWithin (length inputs.now.parts.now)
-        inputs.now.schema.now.granularity stream.new.held }
+    ensures most { AreShaped inputs.now → IsWithin inputs.now stream.new.held }
 {
     let Some(taken) = take_row(
         alloc,

@@ -13,4 +13,7 @@ returns-clause-values g c = λ partition rows holds parts skips.
     (c.merge_chosen.ensures.merged partition rows holds (chosen_parts schema partition schema.granularity chosen rows parts))
 
 pub returns-clause-arm : goal.returns-clause-arm
-returns-clause-arm g c = arm_only c.merge_chosen.ensures.leaves
+returns-clause-arm g c = arm_only c.merge_chosen.ensures.fails.leaves
+
+pub returns-clause-damaged : goal.returns-clause-damaged
+returns-clause-damaged g c = c.merge_chosen.ensures.fails.damaged

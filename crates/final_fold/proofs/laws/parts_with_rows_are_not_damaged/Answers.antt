@@ -1,4 +1,4 @@
-use Rattle.final_fold.proofs.Sound.{fold_sound, matches_sound, merge_sound}
+use Rattle.final_fold.proofs.Sound.{fold_sound, matches_sound}
 use Rattle.final_fold.proofs.laws.parts_with_rows_are_not_damaged.Goals as goal
 
 pub returns-clause-matches : goal.returns-clause-matches
@@ -6,6 +6,3 @@ returns-clause-matches g c = λ files_of w parts chosen rows e hold said why. ma
 
 pub returns-clause-fold : goal.returns-clause-fold
 returns-clause-fold g c = λ files_of w parts chosen rows e hold said why. fold_sound files_of w parts chosen rows hold said e why
-
-pub returns-clause-merge : goal.returns-clause-merge
-returns-clause-merge g c = λ files_of schema parts rows e hold why. merge_sound files_of schema parts rows hold e why

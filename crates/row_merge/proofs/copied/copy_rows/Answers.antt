@@ -3,6 +3,7 @@ use Rattle.std.proofs.lemmas.Result.{on_ok_weaker}
 use Rattle.mt_values.specs.Grid.{picked}
 use Rattle.part_reader.specs.part_writer.Growing.{HasRows}
 use Rattle.row_merge.proofs.Copies.{between_within, picked_between}
+use Rattle.row_merge.proofs.GoingOn.{on_ok_three}
 use Rattle.row_merge.proofs.copied.copy_rows.Goals as goal
 
 pub push_block-requires-clause-places : goal.push_block-requires-clause-places
@@ -24,7 +25,13 @@ returns-clause-rows g c = λ done has.
     let same = ap (λ xs. picked rows (take (to - from) (drop from xs))) (c.deref.ensures.value ∙ c.in_ok-count_to.ensures.order) ∙ picked_between rows from to n c.requires.rising c.requires.within long in
     on_ok_weaker c.push_block.result (λ h. subst (λ xs. HasRows c.push_block.new.self (done ++ xs)) same h) (c.push_block.ensures.rows done has)
 
-pub returns-clause-whole : goal.returns-clause-whole
-returns-clause-whole g c =
+pub returns-clause-grew : goal.returns-clause-grew
+returns-clause-grew g c =
     let w = c.requires.whole in
-    on_ok_weaker c.push_block.result (λ h. record { rows = w.rows ++ picked c.args.block.now.rows (take (c.args.to - c.args.from) (drop c.args.from c.deref.result.now)); has = h }) (c.push_block.ensures.rows w.rows w.has)
+    on_ok_three c.push_block.result
+    (λ h table told. record {
+      whole = record { rows = w.rows ++ picked c.args.block.now.rows (take (c.args.to - c.args.from) (drop c.args.from c.deref.result.now)); has = h };
+      table = table;
+      told = told;
+    })
+    (c.push_block.ensures.rows w.rows w.has) c.push_block.ensures.schema c.push_block.ensures.told

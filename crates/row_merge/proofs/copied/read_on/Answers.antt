@@ -1,5 +1,6 @@
 use Rattle.std.proofs.Common.{arith}
 use Rattle.std.proofs.lemmas.Result.{on_ok_weaker}
+use Rattle.mt_outside.proofs.LeftArms.{arm_same}
 use Rattle.row_merge.proofs.Explaining.{all_stay}
 use Rattle.row_merge.proofs.copied.read_on.Goals as goal
 
@@ -11,3 +12,9 @@ returns-then-has_row-clause-rises g c = omega arith
 
 pub returns-clause-rises : goal.returns-clause-rises
 returns-clause-rises g c = on_ok_weaker c.refill.result (λ reads. reads.most) c.refill.ensures.reads
+
+pub returns-then-has_row-clause-fails : goal.returns-then-has_row-clause-fails
+returns-then-has_row-clause-fails g c = record {
+  damaged = tt;
+  leaves = arm_same c.args.arm.now;
+}

@@ -83,3 +83,9 @@ returns-clause-current g c =
 
 pub returns-clause-held : goal.returns-clause-held
 returns-clause-held g c = held_stays c.args.held.now c.args.held.now refl
+
+pub returns-in_default-clause-grew : goal.returns-in_default-clause-grew
+returns-in_default-clause-grew g c = record { whole = c.requires.whole; table = refl; told = refl }
+
+pub returns-clause-grew : goal.returns-clause-grew
+returns-clause-grew g c = record { whole = c.requires.whole; table = refl; told = refl }

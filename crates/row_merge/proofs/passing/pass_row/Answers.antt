@@ -19,6 +19,7 @@ use Rattle.row_merge.proofs.Copies.{cursor_at, read_cursor}
 use Rattle.row_merge.proofs.Handing.{merge_counted, none_pending}
 use Rattle.row_merge.proofs.Nexts.{counted_stream}
 use Rattle.row_merge.proofs.Passed.{going_of, goes_on, goes_out, keeps_then, next_taken, none_of, one_between, row_is_taken, some_ranked, stays_out, taken_row}
+use Rattle.row_merge.proofs.GoingOn.{on_ok_two}
 use Rattle.row_merge.proofs.passing.pass_row.Goals as goal
 
 -- ---- the row, and the one after it
@@ -59,7 +60,7 @@ fate_of-requires-clause-own g c =
     let t = c.in_ok-own.ensures.takes in
     let same = read_cursor mid.cursors.items own.input t.cursor c.index.result.now t.there c.index.ensures in
     subst (λ (x : Cursor). All (λ place. place < length x.block.types) i.places.now) (sym same)
-    (subst (λ (ts : List ColType). All (λ place. place < length ts) i.places.now) (sym t.types) c.requires.stream.inputs.own)
+    (subst (λ (ts : List ColType). All (λ place. place < length ts) i.places.now) (sym t.types) c.requires.on.stream.inputs.own)
 
 pub fate_of-requires-clause-other : goal.fate_of-requires-clause-other
 fate_of-requires-clause-other g c =
@@ -68,7 +69,7 @@ fate_of-requires-clause-other g c =
     let next = c.leading-next.result.now in
     let l = subst (λ (cs : List Cursor). IsLeading cs c.deref-2.result.now next) c.deref.ensures.value c.leading-next.ensures in
     let types = cursor_at (λ (x : Cursor). x.block.types ≡ column_types i.schema.now) mid.cursors.items l.input next l.there c.in_ok-own.ensures.stream.types in
-    subst (λ (ts : List ColType). All (λ place. place < length ts) i.places.now) (sym types) c.requires.stream.inputs.own
+    subst (λ (ts : List ColType). All (λ place. place < length ts) i.places.now) (sym types) c.requires.on.stream.inputs.own
 
 -- ---- the row is copied
 
@@ -86,7 +87,7 @@ copy_rows-requires-clause-types g c = λ κs within.
     let own = c.in_ok-own.own in
     let t = c.in_ok-own.ensures.takes in
     let same = read_cursor mid.cursors.items own.input t.cursor c.index.result.now t.there c.index.ensures in
-    ap (λ (x : Cursor). x.block.types) same ∙ t.types ∙ ap (λ (x : Schema). column_types x) (sym c.requires.table)
+    ap (λ (x : Cursor). x.block.types) same ∙ t.types ∙ ap (λ (x : Schema). column_types x) (sym c.requires.on.table)
 
 pub returns-in_ok-copy_rows-in-Copied-clause-merges : goal.returns-in_ok-copy_rows-in-Copied-clause-merges
 returns-in_ok-copy_rows-in-Copied-clause-merges g c = λ rows apart m.
@@ -164,9 +165,9 @@ pub hand_on-requires-clause-made : goal.hand_on-requires-clause-made
 hand_on-requires-clause-made g c = λ κs within. c.in_ok-own.ensures.stream.none_made
 
 pub returns-in_err-new-in-Handed-clause-most : goal.returns-in_err-new-in-Handed-clause-most
-returns-in_err-new-in-Handed-clause-most g c = λ shaped.
+returns-in_err-new-in-Handed-clause-most g c =
     let i = c.args.inputs.now in
-    c.hand_on.ensures.held.within (length i.parts.now) i.schema.now.granularity (c.take_ahead.ensures.most shaped)
+    c.hand_on.ensures.held.within (length i.parts.now) i.schema.now.granularity (c.take_ahead.ensures.most c.requires.on.shaped)
 
 pub close_key-requires-clause-next : goal.close_key-requires-clause-next
 close_key-requires-clause-next g c = λ κs within. c.leading-next.ensures.some
@@ -180,7 +181,7 @@ close_key-requires-clause-types g c = λ κs within.
     cursor_at (λ (x : Cursor). x.block.types ≡ column_types i.schema.now) mid.cursors.items l.input next l.there c.in_ok-own.ensures.stream.types
 
 pub close_key-requires-clause-table : goal.close_key-requires-clause-table
-close_key-requires-clause-table g c = λ κs within. c.in_ok-new-in-Handed.ensures.table ∙ c.requires.table
+close_key-requires-clause-table g c = λ κs within. c.in_ok-new-in-Handed.ensures.grew.table ∙ c.requires.on.table
 
 pub returns-in_ok-new-in-Handed-clause-merges : goal.returns-in_ok-new-in-Handed-clause-merges
 returns-in_ok-new-in-Handed-clause-merges g c = λ rows apart m.
@@ -210,29 +211,76 @@ returns-in_ok-new-in-Handed-clause-merges g c = λ rows apart m.
 pub returns-in_ok-new-in-Handed-clause-fewer : goal.returns-in_ok-new-in-Handed-clause-fewer
 returns-in_ok-new-in-Handed-clause-fewer g c = on_ok_weaker c.close_key.result (λ none. c.in_ok-own.ensures.takes.fewer) c.close_key.ensures.made
 
-pub returns-in_ok-new-in-Handed-clause-stream : goal.returns-in_ok-new-in-Handed-clause-stream
-returns-in_ok-new-in-Handed-clause-stream g c =
-    let mid = c.take_ahead.new.stream in
-    let s = c.in_ok-own.ensures.stream in
-    on_ok_weaker c.close_key.result
-    (λ none. counted_stream c.args.inputs.now mid _ s refl s.readers s.ranked (keeps_then mid.held c.hand_on.new.held c.close_key.new.held c.hand_on.ensures.held c.close_key.ensures.held) none)
-    c.close_key.ensures.made
-
-pub returns-in_ok-new-in-Handed-clause-table : goal.returns-in_ok-new-in-Handed-clause-table
-returns-in_ok-new-in-Handed-clause-table g c = on_ok_weaker c.close_key.result (λ e. e ∙ c.in_ok-new-in-Handed.ensures.table) c.close_key.ensures.table
-
-pub returns-in_ok-new-in-Handed-clause-told : goal.returns-in_ok-new-in-Handed-clause-told
-returns-in_ok-new-in-Handed-clause-told g c = on_ok_weaker c.close_key.result (λ e. e ∙ c.in_ok-new-in-Handed.ensures.told) c.close_key.ensures.told
-
-pub returns-in_ok-new-in-Handed-clause-rises : goal.returns-in_ok-new-in-Handed-clause-rises
-returns-in_ok-new-in-Handed-clause-rises g c =
-    on_ok_weaker c.close_key.result (λ none. omega (arith, c.in_ok-own.ensures.rises, c.hand_on.ensures.held.most, c.close_key.ensures.held.most)) c.close_key.ensures.made
-
 pub returns-in_ok-new-in-Handed-clause-most : goal.returns-in_ok-new-in-Handed-clause-most
-returns-in_ok-new-in-Handed-clause-most g c = λ shaped.
+returns-in_ok-new-in-Handed-clause-most g c =
     let i = c.args.inputs.now in
     let mid = c.take_ahead.new.stream in
-    (keeps_then mid.held c.hand_on.new.held c.close_key.new.held c.hand_on.ensures.held c.close_key.ensures.held).within (length i.parts.now) i.schema.now.granularity (c.take_ahead.ensures.most shaped)
+    (keeps_then mid.held c.hand_on.new.held c.close_key.new.held c.hand_on.ensures.held c.close_key.ensures.held).within (length i.parts.now) i.schema.now.granularity (c.take_ahead.ensures.most c.requires.on.shaped)
 
 pub returns-in_ok-new-in-Handed-clause-cause : goal.returns-in_ok-new-in-Handed-clause-cause
 returns-in_ok-new-in-Handed-clause-cause g c = subst (λ n. HasDiskCause n c.close_key.new.out.stage.failed c.close_key.result) c.in_ok-new-in-Handed.ensures.cause.ok c.close_key.ensures.cause
+
+pub take_ahead-requires-clause-stream : goal.take_ahead-requires-clause-stream
+take_ahead-requires-clause-stream g c = λ κs within. c.requires.on.stream
+
+pub copy_rows-requires-clause-whole : goal.copy_rows-requires-clause-whole
+copy_rows-requires-clause-whole g c = λ κs within. c.requires.on.whole
+
+pub returns-in_ok-copy_rows-in-Copied-clause-on : goal.returns-in_ok-copy_rows-in-Copied-clause-on
+returns-in_ok-copy_rows-in-Copied-clause-on g c =
+    let copied = c.in_ok-copy_rows-in-Copied.ensures.grew in
+    let may = c.requires.on in
+    record {
+      on = record { stream = c.in_ok-own.ensures.stream; shaped = may.shaped; whole = copied.whole; table = copied.table ∙ may.table };
+      told = copied.told;
+      rises = c.in_ok-own.ensures.rises;
+    }
+
+pub returns-in-LeftOut-clause-on : goal.returns-in-LeftOut-clause-on
+returns-in-LeftOut-clause-on g c =
+    let may = c.requires.on in
+    record { on = record { stream = c.in_ok-own.ensures.stream; shaped = may.shaped; whole = may.whole; table = may.table }; told = refl; rises = c.in_ok-own.ensures.rises }
+
+pub hand_on-requires-clause-inputs : goal.hand_on-requires-clause-inputs
+hand_on-requires-clause-inputs g c = λ κs within. c.requires.on.stream.inputs
+
+pub hand_on-requires-clause-whole : goal.hand_on-requires-clause-whole
+hand_on-requires-clause-whole g c = λ κs within. c.requires.on.whole
+
+pub hand_on-requires-clause-table : goal.hand_on-requires-clause-table
+hand_on-requires-clause-table g c = λ κs within. c.requires.on.table
+
+pub close_key-requires-clause-inputs : goal.close_key-requires-clause-inputs
+close_key-requires-clause-inputs g c = λ κs within. c.requires.on.stream.inputs
+
+pub returns-in_ok-new-in-Handed-clause-on : goal.returns-in_ok-new-in-Handed-clause-on
+returns-in_ok-new-in-Handed-clause-on g c =
+    let mid = c.take_ahead.new.stream in
+    let s = c.in_ok-own.ensures.stream in
+    let kept = keeps_then mid.held c.hand_on.new.held c.close_key.new.held c.hand_on.ensures.held c.close_key.ensures.held in
+    let handed = c.in_ok-new-in-Handed.ensures.grew in
+    on_ok_two c.close_key.result
+    (λ none grew. record {
+      on = record { stream = counted_stream c.args.inputs.now mid _ s refl s.readers s.ranked kept none; shaped = c.requires.on.shaped; whole = grew.whole; table = grew.table ∙ handed.table ∙ c.requires.on.table };
+      told = grew.told ∙ handed.told;
+      rises = omega (arith, c.in_ok-own.ensures.rises, c.hand_on.ensures.held.most, c.close_key.ensures.held.most);
+    })
+    c.close_key.ensures.made c.close_key.ensures.grew
+
+pub returns-in_err-own-clause-most : goal.returns-in_err-own-clause-most
+returns-in_err-own-clause-most g c = c.take_ahead.ensures.most c.requires.on.shaped
+
+pub returns-in_err-copy_rows-in-Copied-clause-most : goal.returns-in_err-copy_rows-in-Copied-clause-most
+returns-in_err-copy_rows-in-Copied-clause-most g c = c.take_ahead.ensures.most c.requires.on.shaped
+
+pub returns-in_ok-copy_rows-in-Copied-clause-most : goal.returns-in_ok-copy_rows-in-Copied-clause-most
+returns-in_ok-copy_rows-in-Copied-clause-most g c = c.take_ahead.ensures.most c.requires.on.shaped
+
+pub returns-in-LeftOut-clause-most : goal.returns-in-LeftOut-clause-most
+returns-in-LeftOut-clause-most g c = c.take_ahead.ensures.most c.requires.on.shaped
+
+pub returns-in_err-row-in-Handed-clause-most : goal.returns-in_err-row-in-Handed-clause-most
+returns-in_err-row-in-Handed-clause-most g c = c.take_ahead.ensures.most c.requires.on.shaped
+
+pub close_key-requires-clause-whole : goal.close_key-requires-clause-whole
+close_key-requires-clause-whole g c = λ κs within. c.in_ok-new-in-Handed.ensures.grew.whole

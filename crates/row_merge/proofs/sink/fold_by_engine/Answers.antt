@@ -16,7 +16,7 @@ returns-in-Plain-clause-merged g c = λ partition rows left holds left_is parts.
     let i = c.args.inputs.now in
     let schema = i.schema.now in
     on_ok_weaker c.fold_stream.result
-    (λ m. merged_given g.T.RowSink.gets schema partition c.requires.schema i.places.now (Run engine.Plain []) left c.args.out.now c.fold_stream.new.out c.requires.stream.inputs.places_are (run_of schema (engine.Plain) c.in-Plain.is (λ other. cc)) parts m)
+    (λ m. merged_given g.T.RowSink.gets schema partition c.requires.stream.inputs.table i.places.now (Run engine.Plain []) left c.args.out.now c.fold_stream.new.out c.requires.stream.inputs.places_are (run_of schema (engine.Plain) c.in-Plain.is (λ other. cc)) parts m)
     (c.fold_stream.ensures.merged partition rows left tt holds left_is parts)
 
 pub returns-in-Replacing-clause-merged : goal.returns-in-Replacing-clause-merged
@@ -25,7 +25,7 @@ returns-in-Replacing-clause-merged g c = λ partition rows left holds left_is pa
     let schema = i.schema.now in
     let version = c.in-Replacing.version in
     on_ok_weaker c.fold_stream-in-Replacing.result
-    (λ m. merged_given g.T.RowSink.gets schema partition c.requires.schema i.places.now (Run (engine.Replacing version) []) left c.args.out.now c.fold_stream-in-Replacing.new.out c.requires.stream.inputs.places_are (run_of schema (engine.Replacing version) c.in-Replacing.is (λ other. cc)) parts m)
+    (λ m. merged_given g.T.RowSink.gets schema partition c.requires.stream.inputs.table i.places.now (Run (engine.Replacing version) []) left c.args.out.now c.fold_stream-in-Replacing.new.out c.requires.stream.inputs.places_are (run_of schema (engine.Replacing version) c.in-Replacing.is (λ other. cc)) parts m)
     (c.fold_stream-in-Replacing.ensures.merged partition rows left tt holds left_is parts)
 
 pub fold_stream-requires-in-Collapsing-clause-takes : goal.fold_stream-requires-in-Collapsing-clause-takes
@@ -37,7 +37,7 @@ returns-in-Collapsing-clause-merged g c = λ partition rows left holds left_is p
     let schema = i.schema.now in
     let sign = c.in-Collapsing.sign in
     on_ok_weaker c.fold_stream-in-Collapsing.result
-    (λ m. merged_given g.T.RowSink.gets schema partition c.requires.schema i.places.now (Run (engine.Collapsing sign) []) left c.args.out.now c.fold_stream-in-Collapsing.new.out c.requires.stream.inputs.places_are (run_of schema (engine.Collapsing sign) c.in-Collapsing.is (λ other. cc)) parts m)
+    (λ m. merged_given g.T.RowSink.gets schema partition c.requires.stream.inputs.table i.places.now (Run (engine.Collapsing sign) []) left c.args.out.now c.fold_stream-in-Collapsing.new.out c.requires.stream.inputs.places_are (run_of schema (engine.Collapsing sign) c.in-Collapsing.is (λ other. cc)) parts m)
     (c.fold_stream-in-Collapsing.ensures.merged partition rows left tt holds left_is parts)
 
 pub fold_stream-requires-in-Versioned-clause-takes : goal.fold_stream-requires-in-Versioned-clause-takes
@@ -50,7 +50,7 @@ returns-in-Versioned-clause-merged g c = λ partition rows left holds left_is pa
     let sign = c.in-Versioned.sign in
     let version = c.in-Versioned.version in
     on_ok_weaker c.fold_stream-in-Versioned.result
-    (λ m. merged_given g.T.RowSink.gets schema partition c.requires.schema i.places.now (Run (engine.Versioned sign version) []) left c.args.out.now c.fold_stream-in-Versioned.new.out c.requires.stream.inputs.places_are (run_of schema (engine.Versioned sign version) c.in-Versioned.is (λ other. cc)) parts m)
+    (λ m. merged_given g.T.RowSink.gets schema partition c.requires.stream.inputs.table i.places.now (Run (engine.Versioned sign version) []) left c.args.out.now c.fold_stream-in-Versioned.new.out c.requires.stream.inputs.places_are (run_of schema (engine.Versioned sign version) c.in-Versioned.is (λ other. cc)) parts m)
     (c.fold_stream-in-Versioned.ensures.merged partition rows left tt holds left_is parts)
 
 pub fold_stream-requires-in-Summing-clause-takes : goal.fold_stream-requires-in-Summing-clause-takes
@@ -64,8 +64,8 @@ returns-in-Ok-clause-merged g c = λ partition rows left holds left_is parts.
     let is : schema.engine ≡ engine.Summing places = c.in-Summing.is ∙ ap engine.Summing (sym c.in-Ok.ensures.places) in
     let sorting = c.requires.stream.inputs.places_are in
     on_ok_weaker c.fold_stream-in-Summing.result
-    (λ m. merged_given g.T.RowSink.gets schema partition c.requires.schema i.places.now (Run (engine.Summing places) []) left c.args.out.now c.fold_stream-in-Summing.new.out sorting (run_of schema (engine.Summing places) is (λ other. cc)) parts m)
-    (c.fold_stream-in-Summing.ensures.merged partition rows left (subst (All (λ place. is_one_of places place ≡ false)) (sym sorting) (sums_kept schema c.requires.schema places is)) holds left_is parts)
+    (λ m. merged_given g.T.RowSink.gets schema partition c.requires.stream.inputs.table i.places.now (Run (engine.Summing places) []) left c.args.out.now c.fold_stream-in-Summing.new.out sorting (run_of schema (engine.Summing places) is (λ other. cc)) parts m)
+    (c.fold_stream-in-Summing.ensures.merged partition rows left (subst (All (λ place. is_one_of places place ≡ false)) (sym sorting) (sums_kept schema c.requires.stream.inputs.table places is)) holds left_is parts)
 
 pub fold_stream-requires-in-Aggregating-clause-takes : goal.fold_stream-requires-in-Aggregating-clause-takes
 fold_stream-requires-in-Aggregating-clause-takes g c = λ κs within row typed signed.
@@ -82,24 +82,24 @@ returns-in-Ok-aggregating_rule-clause-merged g c = λ partition rows left holds 
     let e = c.in-Ok-aggregating_rule.ensures in
     let sorting = c.requires.stream.inputs.places_are in
     on_ok_weaker c.fold_stream-in-Aggregating.result
-    (λ m. merged_given g.T.RowSink.gets schema partition c.requires.schema i.places.now (Run engine.Aggregating functions) left c.args.out.now c.fold_stream-in-Aggregating.new.out sorting
+    (λ m. merged_given g.T.RowSink.gets schema partition c.requires.stream.inputs.table i.places.now (Run engine.Aggregating functions) left c.args.out.now c.fold_stream-in-Aggregating.new.out sorting
     (λ some kept h. run_as schema engine.Aggregating c.in-Aggregating.is some kept (subst (λ fs. Run engine.Aggregating fs some kept) e.functions h)) parts m)
     (c.fold_stream-in-Aggregating.ensures.merged partition rows left
     (subst (All (λ place. slice_get functions place ≡ Some None)) (sym sorting)
-    (subst (λ fs. All (λ place. slice_get fs place ≡ Some None) (sorting_columns schema)) (sym e.functions) (functions_kept schema c.requires.schema c.in-Aggregating.is))) holds left_is parts)
+    (subst (λ fs. All (λ place. slice_get fs place ≡ Some None) (sorting_columns schema)) (sym e.functions) (functions_kept schema c.requires.stream.inputs.table c.in-Aggregating.is))) holds left_is parts)
 
 -- an allocation failed
-pub returns-in_default-clause-damaged : goal.returns-in_default-clause-damaged
-returns-in_default-clause-damaged g c = first_fails g.R.Dir.Dir.files c.args.inputs.now c.args.stream.now.readers.items c.requires.stream.readers c.index-inputs-0.result c.requires.some c.index-inputs-0.is _ tt
+pub returns-in_default-clause-fails : goal.returns-in_default-clause-fails
+returns-in_default-clause-fails g c = record {
+  damaged = first_fails g.R.Dir.Dir.files c.args.inputs.now c.args.stream.now.readers.items c.requires.stream.readers c.index-inputs-0.result c.requires.stream.inputs.some c.index-inputs-0.is _ tt;
+  leaves = both_as (arm_alone (g.T.RowSink.failed c.args.out.now) (arm_same c.args.arm.now)) no_fault (λ none. absurd none);
+}
 
-pub returns-in_default-aggregating_rule-clause-damaged : goal.returns-in_default-aggregating_rule-clause-damaged
-returns-in_default-aggregating_rule-clause-damaged g c = first_fails g.R.Dir.Dir.files c.args.inputs.now c.args.stream.now.readers.items c.requires.stream.readers c.index-inputs-0-in_default-aggregating_rule.result c.requires.some c.index-inputs-0-in_default-aggregating_rule.is _ tt
-
-pub returns-in_default-clause-leaves : goal.returns-in_default-clause-leaves
-returns-in_default-clause-leaves g c = both_as (arm_alone (g.T.RowSink.failed c.args.out.now) (arm_same c.args.arm.now)) no_fault (λ none. absurd none)
-
-pub returns-in_default-aggregating_rule-clause-leaves : goal.returns-in_default-aggregating_rule-clause-leaves
-returns-in_default-aggregating_rule-clause-leaves g c = both_as (arm_alone (g.T.RowSink.failed c.args.out.now) (arm_same c.args.arm.now)) no_fault (λ none. absurd none)
+pub returns-in_default-aggregating_rule-clause-fails : goal.returns-in_default-aggregating_rule-clause-fails
+returns-in_default-aggregating_rule-clause-fails g c = record {
+  damaged = first_fails g.R.Dir.Dir.files c.args.inputs.now c.args.stream.now.readers.items c.requires.stream.readers c.index-inputs-0-in_default-aggregating_rule.result c.requires.stream.inputs.some c.index-inputs-0-in_default-aggregating_rule.is _ tt;
+  leaves = both_as (arm_alone (g.T.RowSink.failed c.args.out.now) (arm_same c.args.arm.now)) no_fault (λ none. absurd none);
+}
 
 pub returns-in_default-clause-most : goal.returns-in_default-clause-most
 returns-in_default-clause-most g c = λ shaped. (c.requires.stream.counts shaped).within

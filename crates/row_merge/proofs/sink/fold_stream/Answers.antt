@@ -4,15 +4,14 @@ use Rattle.mt_values.specs.Grid.{AreRowsOf}
 use Rattle.mt_values.specs.Schemas.{column_types}
 use Rattle.mt_values.specs.Values.{Row}
 use Rattle.mt_values.specs.declared.value.ColType.{ColType}
-use Rattle.part_reader.specs.Faults.{IsNoDamage}
-use Rattle.part_reader.proofs.Gaining.{handed_on}
-use Rattle.row_merge.specs.Streams.{ExplainsStream, GivesRow, HasPending, IsPending, rows_to_come}
+use Rattle.row_merge.specs.Streams.{GivesRow, HasPending, IsPending, rows_to_come}
 use Rattle.row_merge.proofs.Explaining.{all_later, all_stay, explained_before, first_fails}
 use Rattle.row_merge.proofs.GivenSinks.{fold_begins, fold_counted, fold_goes_on, fold_row_is_own, folded_all, got_last, got_more, got_none}
 use Rattle.row_merge.proofs.Handing.{none_pending}
 use Rattle.row_merge.proofs.Nexts.{counted_stream}
 use Rattle.row_merge.proofs.SealedMerges.{no_damage}
-use Rattle.row_merge.proofs.Written.{arm_alone, both_as, both_then, handed_both, no_fault, stage_alone, stage_failed}
+use Rattle.row_merge.proofs.Written.{arm_alone, both_as, both_then, no_fault, stage_alone, stage_failed}
+use Rattle.row_merge.proofs.Failing.{handed_fails}
 use Rattle.row_merge.proofs.sink.fold_stream.Goals as goal
 
 pub rows-init : goal.rows-init
@@ -32,21 +31,14 @@ rows-init g c =
     }
 
 -- a part could not be read
-pub returns-in_err-row-clause-sound : goal.returns-in_err-row-clause-sound
-returns-in_err-row-clause-sound g c = λ rows holds.
-    handed_on (λ e. IsNoDamage e.1) c.from_residual.result c.in_err-row.field-0.0 c.from_residual.ensures.1 (c.in_err-row.ensures.sound rows holds)
-
-pub returns-in_err-row-clause-damaged : goal.returns-in_err-row-clause-damaged
-returns-in_err-row-clause-damaged g c =
+pub returns-in_err-row-clause-fails : goal.returns-in_err-row-clause-fails
+returns-in_err-row-clause-fails g c =
     let files = g.R.Dir.Dir.files in
     let i = c.args.inputs.now in
     let olds = c.args.stream.now.readers.items in
-    handed_on (ExplainsStream files i olds) c.from_residual.result c.in_err-row.field-0.0 c.from_residual.ensures.1
-    (explained_before files i c.in_err-row.field-0.0 olds c.rows.stream.readers.items c.rows.invariant.later c.in_err-row.ensures.damaged)
-
-pub returns-in_err-row-clause-leaves : goal.returns-in_err-row-clause-leaves
-returns-in_err-row-clause-leaves g c =
-    handed_both c.from_residual.result c.in_err-row.field-0.0 c.from_residual.ensures.1 (both_then c.rows.invariant.leaves (λ none. none) (arm_alone (g.T.RowSink.failed c.rows.out) c.in_err-row.ensures.arm))
+    handed_fails c.from_residual.result c.in_err-row.field-0.0 c.from_residual.ensures.1
+    (explained_before files i c.in_err-row.field-0.0 olds c.rows.stream.readers.items c.rows.invariant.later c.in_err-row.ensures.fails.damaged)
+    (both_then c.rows.invariant.leaves (λ none. none) (arm_alone (g.T.RowSink.failed c.rows.out) c.in_err-row.ensures.fails.leaves))
 
 -- the next row is handed over
 pub hand_over-requires-clause-takes : goal.hand_over-requires-clause-takes
@@ -96,7 +88,7 @@ rows-preserved g c =
           (fold_goes_on gets run holds takes i left rows old mid c.rows.current c.in-Ok.new first c.rows.out c.give.new.out c.in-Some.row m t c.in-Ok.kept.items
           (g.met.T.RowSink.gets_more first c.rows.out c.give.new.out m.done c.in-Ok.kept.items m.got got)
           (c.in-Ok.ensures.hands left m.done m.left t.after apart own.signed m.over t.taken));
-      leaves = both_then before.leaves (λ none. none) (both_then (arm_alone (g.T.RowSink.failed c.rows.out) c.in_ok-row.ensures.arm) (λ none. none)
+      leaves = both_then before.leaves (λ none. none) (both_then (arm_alone (g.T.RowSink.failed c.rows.out) c.in_ok-row.ensures.fails.leaves) (λ none. none)
           (stage_alone c.next_row.new.arm (g.T.RowSink.failed c.rows.out) (g.T.RowSink.failed c.give.new.out) ⊥ given.cause.later (λ f. absurd f) (λ none. c.in-Ok-give.ensures.cause.ok)));
     }
 
@@ -139,48 +131,39 @@ returns-in-Ok-end_fold-clause-gets g c = got_last g.T.RowSink.gets g.met.T.RowSi
 pub returns-in-Ok-end_fold-clause-most : goal.returns-in-Ok-end_fold-clause-most
 returns-in-Ok-end_fold-clause-most g c = λ shaped. let i = c.args.inputs.now in c.end_fold.ensures.held.within (length i.parts.now) i.schema.now.granularity (c.next_row.ensures.most shaped)
 
-pub returns-in-Ok-end_fold-clause-leaves : goal.returns-in-Ok-end_fold-clause-leaves
-returns-in-Ok-end_fold-clause-leaves g c =
-    both_as (both_then c.rows.invariant.leaves (λ none. none) (both_then (arm_alone (g.T.RowSink.failed c.rows.out) c.in_ok-row.ensures.arm) (λ none. none)
-    (stage_alone c.next_row.new.arm (g.T.RowSink.failed c.rows.out) (g.T.RowSink.failed c.end_fold.new.out) ⊥ c.end_fold.ensures.cause.later (λ f. absurd f) (λ none. c.in-Ok-end_fold.ensures.cause.ok))))
-    (λ fault. absurd fault) (λ none. absurd none)
+pub returns-in-Ok-end_fold-clause-fails : goal.returns-in-Ok-end_fold-clause-fails
+returns-in-Ok-end_fold-clause-fails g c = record {
+  damaged = tt;
+  leaves = both_as (both_then c.rows.invariant.leaves (λ none. none) (both_then (arm_alone (g.T.RowSink.failed c.rows.out) c.in_ok-row.ensures.fails.leaves) (λ none. none)
+      (stage_alone c.next_row.new.arm (g.T.RowSink.failed c.rows.out) (g.T.RowSink.failed c.end_fold.new.out) ⊥ c.end_fold.ensures.cause.later (λ f. absurd f) (λ none. c.in-Ok-end_fold.ensures.cause.ok))))
+      (λ fault. absurd fault) (λ none. absurd none);
+}
 
 -- memory ran out
-pub returns-in_default-hand_over-clause-damaged : goal.returns-in_default-hand_over-clause-damaged
-returns-in_default-hand_over-clause-damaged g c =
-    first_fails g.R.Dir.Dir.files c.args.inputs.now c.args.stream.now.readers.items c.requires.stream.readers c.index-inputs-0.result c.requires.some c.index-inputs-0.is _ tt
-
-pub returns-in_default-hand_over-clause-leaves : goal.returns-in_default-hand_over-clause-leaves
-returns-in_default-hand_over-clause-leaves g c = both_as (both_then c.rows.invariant.leaves (λ none. none) (arm_alone (g.T.RowSink.failed c.rows.out) c.in_ok-row.ensures.arm)) no_fault (λ none. absurd none)
+pub returns-in_default-hand_over-clause-fails : goal.returns-in_default-hand_over-clause-fails
+returns-in_default-hand_over-clause-fails g c = record {
+  damaged = first_fails g.R.Dir.Dir.files c.args.inputs.now c.args.stream.now.readers.items c.requires.stream.readers c.index-inputs-0.result c.requires.stream.inputs.some c.index-inputs-0.is _ tt;
+  leaves = both_as (both_then c.rows.invariant.leaves (λ none. none) (arm_alone (g.T.RowSink.failed c.rows.out) c.in_ok-row.ensures.fails.leaves)) no_fault (λ none. absurd none);
+}
 
 -- the sink refused rows
-pub returns-in-Err-clause-damaged : goal.returns-in-Err-clause-damaged
-returns-in-Err-clause-damaged g c =
-    first_fails g.R.Dir.Dir.files c.args.inputs.now c.args.stream.now.readers.items c.requires.stream.readers c.index-inputs-0-in-Err.result c.requires.some c.index-inputs-0-in-Err.is c.from.result (no_damage c.in-Err.error c.from.result c.from.ensures)
-
-pub returns-in-Err-clause-sound : goal.returns-in-Err-clause-sound
-returns-in-Err-clause-sound g c = λ rows holds. no_damage c.in-Err.error c.from.result c.from.ensures
+pub returns-in-Err-clause-fails : goal.returns-in-Err-clause-fails
+returns-in-Err-clause-fails g c = record {
+  damaged = first_fails g.R.Dir.Dir.files c.args.inputs.now c.args.stream.now.readers.items c.requires.stream.readers c.index-inputs-0-in-Err.result c.requires.stream.inputs.some c.index-inputs-0-in-Err.is c.from.result (no_damage c.in-Err.error c.from.result c.from.ensures);
+  leaves = both_then (both_then c.rows.invariant.leaves (λ none. none) (arm_alone (g.T.RowSink.failed c.rows.out) c.in_ok-row.ensures.fails.leaves)) (λ none. none)
+      (stage_failed c.next_row.new.arm (g.T.RowSink.failed c.rows.out) (g.T.RowSink.failed c.give.new.out) c.give.result c.in-Err.error c.from.result c.in-Err.is c.from.ensures c.give.ensures.cause);
+}
 
 pub returns-in-Err-clause-most : goal.returns-in-Err-clause-most
 returns-in-Err-clause-most g c = λ shaped. let i = c.args.inputs.now in c.give.ensures.held.within (length i.parts.now) i.schema.now.granularity (c.next_row.ensures.most shaped)
 
-pub returns-in-Err-clause-leaves : goal.returns-in-Err-clause-leaves
-returns-in-Err-clause-leaves g c =
-    both_then (both_then c.rows.invariant.leaves (λ none. none) (arm_alone (g.T.RowSink.failed c.rows.out) c.in_ok-row.ensures.arm)) (λ none. none)
-    (stage_failed c.next_row.new.arm (g.T.RowSink.failed c.rows.out) (g.T.RowSink.failed c.give.new.out) c.give.result c.in-Err.error c.from.result c.in-Err.is c.from.ensures c.give.ensures.cause)
-
-pub returns-in-Err-end_fold-clause-damaged : goal.returns-in-Err-end_fold-clause-damaged
-returns-in-Err-end_fold-clause-damaged g c =
-    first_fails g.R.Dir.Dir.files c.args.inputs.now c.args.stream.now.readers.items c.requires.stream.readers c.index-inputs-0-in-Err-end_fold.result c.requires.some c.index-inputs-0-in-Err-end_fold.is c.from-in-Err-end_fold.result
-    (no_damage c.in-Err-end_fold.error c.from-in-Err-end_fold.result c.from-in-Err-end_fold.ensures)
-
-pub returns-in-Err-end_fold-clause-sound : goal.returns-in-Err-end_fold-clause-sound
-returns-in-Err-end_fold-clause-sound g c = λ rows holds. no_damage c.in-Err-end_fold.error c.from-in-Err-end_fold.result c.from-in-Err-end_fold.ensures
+pub returns-in-Err-end_fold-clause-fails : goal.returns-in-Err-end_fold-clause-fails
+returns-in-Err-end_fold-clause-fails g c = record {
+  damaged = first_fails g.R.Dir.Dir.files c.args.inputs.now c.args.stream.now.readers.items c.requires.stream.readers c.index-inputs-0-in-Err-end_fold.result c.requires.stream.inputs.some c.index-inputs-0-in-Err-end_fold.is c.from-in-Err-end_fold.result
+      (no_damage c.in-Err-end_fold.error c.from-in-Err-end_fold.result c.from-in-Err-end_fold.ensures);
+  leaves = both_then (both_then c.rows.invariant.leaves (λ none. none) (arm_alone (g.T.RowSink.failed c.rows.out) c.in_ok-row.ensures.fails.leaves)) (λ none. none)
+      (stage_failed c.next_row.new.arm (g.T.RowSink.failed c.rows.out) (g.T.RowSink.failed c.end_fold.new.out) c.end_fold.result c.in-Err-end_fold.error c.from-in-Err-end_fold.result c.in-Err-end_fold.is c.from-in-Err-end_fold.ensures c.end_fold.ensures.cause);
+}
 
 pub returns-in-Err-end_fold-clause-most : goal.returns-in-Err-end_fold-clause-most
 returns-in-Err-end_fold-clause-most g c = λ shaped. let i = c.args.inputs.now in c.end_fold.ensures.held.within (length i.parts.now) i.schema.now.granularity (c.next_row.ensures.most shaped)
-
-pub returns-in-Err-end_fold-clause-leaves : goal.returns-in-Err-end_fold-clause-leaves
-returns-in-Err-end_fold-clause-leaves g c =
-    both_then (both_then c.rows.invariant.leaves (λ none. none) (arm_alone (g.T.RowSink.failed c.rows.out) c.in_ok-row.ensures.arm)) (λ none. none)
-    (stage_failed c.next_row.new.arm (g.T.RowSink.failed c.rows.out) (g.T.RowSink.failed c.end_fold.new.out) c.end_fold.result c.in-Err-end_fold.error c.from-in-Err-end_fold.result c.in-Err-end_fold.is c.from-in-Err-end_fold.ensures c.end_fold.ensures.cause)

@@ -3,13 +3,13 @@ use Rattle.row_merge.proofs.Appending.{appended_given, appended_keeps, appended_
 use Rattle.row_merge.proofs.sink.give.Goals as goal
 
 pub returns-in_err-add_rows-clause-held : goal.returns-in_err-add_rows-clause-held
-returns-in_err-add_rows-clause-held g c = gave_keeps (length c.args.rows.now) c.args.held.now c.gave.new.self c.requires.made c.gave.ensures
+returns-in_err-add_rows-clause-held g c = gave_keeps (length c.args.rows.now) c.args.held.now c.gave.new.self (omega arith) c.requires.made c.gave.ensures
 
 pub returns-clause-held : goal.returns-clause-held
 returns-clause-held g c =
     let n = length c.args.rows.now in
     let held = c.args.held.now in
-    appended_keeps n held c.gave.new.self c.appended.new.self (gave_keeps n held c.gave.new.self c.requires.made c.gave.ensures) c.appended.ensures
+    appended_keeps n held c.gave.new.self c.appended.new.self (gave_keeps n held c.gave.new.self (omega arith) c.requires.made c.gave.ensures) c.appended.ensures
 
 pub returns-clause-made : goal.returns-clause-made
 returns-clause-made g c =

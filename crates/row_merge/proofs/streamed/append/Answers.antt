@@ -16,7 +16,7 @@ loop-row-init g c =
       count = refl;
       made = omega (arith, gave_made (length c.args.rows.now) held c.gave.new.self c.requires.made c.gave.ensures);
       given = gave_given (length c.args.rows.now) held c.gave.new.self c.gave.ensures;
-      held = gave_keeps (length c.args.rows.now) held c.gave.new.self c.requires.made c.gave.ensures;
+      held = gave_keeps (length c.args.rows.now) held c.gave.new.self (omega arith) c.requires.made c.gave.ensures;
     }
 
 pub push-requires-clause-whole : goal.push-requires-clause-whole
@@ -48,10 +48,14 @@ pub returns-clause-rows : goal.returns-clause-rows
 returns-clause-rows g c = λ done has.
     subst (λ (zs : List Row). HasRows c.loop-row.out (done ++ zs)) (take_all c.loop-row.row-index c.args.rows.now (omega arith)) (c.loop-row.invariant.rows done has)
 
-pub returns-clause-whole : goal.returns-clause-whole
-returns-clause-whole g c =
+pub returns-clause-grew : goal.returns-clause-grew
+returns-clause-grew g c =
     let w = c.requires.whole in
-    record { rows = w.rows ++ take c.loop-row.row-index c.args.rows.now; has = c.loop-row.invariant.rows w.rows w.has }
+    record {
+      whole = record { rows = w.rows ++ take c.loop-row.row-index c.args.rows.now; has = c.loop-row.invariant.rows w.rows w.has };
+      table = c.loop-row.invariant.table;
+      told = c.loop-row.invariant.told;
+    }
 
 pub returns-clause-made : goal.returns-clause-made
 returns-clause-made g c = omega (arith, c.loop-row.invariant.made)

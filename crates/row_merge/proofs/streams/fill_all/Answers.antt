@@ -1,16 +1,13 @@
 use Rattle.std.proofs.Common.{◌<◌, ◌∙◌, arith, length, sym}
 use Rattle.std.proofs.lemmas.Option.{slice_get_within}
 use Rattle.mt_outside.proofs.LeftArms.{arm_calm, arm_same, arm_then}
-use Rattle.part_reader.specs.Faults.{IsNoDamage}
-use Rattle.part_reader.proofs.Gaining.{handed_on}
 use Rattle.row_merge.specs.Heads.{ahead_of}
-use Rattle.row_merge.specs.Streams.{ExplainsStream}
 use Rattle.row_merge.proofs.Explaining.{all_later, all_stay, explained_before}
 use Rattle.row_merge.proofs.FirstGranules.{first_more, first_total}
 use Rattle.row_merge.proofs.Nexts.{all_filled, more_filled, none_filled}
 use Rattle.row_merge.proofs.Opening.{none_at}
 use Rattle.row_merge.proofs.Refilling.{ahead_parts, ahead_rests}
-use Rattle.row_merge.proofs.Written.{handed_arm}
+use Rattle.row_merge.proofs.Failing.{handed_fails}
 use Rattle.row_merge.proofs.streams.fill_all.Goals as goal
 
 pub loop-number-init : goal.loop-number-init
@@ -29,21 +26,14 @@ loop-number-init g c =
 pub refill-requires-clause-none : goal.refill-requires-clause-none
 refill-requires-clause-none g c = λ κs within. c.loop-number.invariant.none c.loop-number.number (omega arith)
 
-pub returns-in_err-refill-clause-sound : goal.returns-in_err-refill-clause-sound
-returns-in_err-refill-clause-sound g c = λ rows holds.
-    handed_on (λ e. IsNoDamage e.1) c.from_residual.result c.in_err-refill.field-0.0 c.from_residual.ensures.1 (c.in_err-refill.ensures.sound rows holds)
-
-pub returns-in_err-refill-clause-damaged : goal.returns-in_err-refill-clause-damaged
-returns-in_err-refill-clause-damaged g c =
+pub returns-in_err-refill-clause-fails : goal.returns-in_err-refill-clause-fails
+returns-in_err-refill-clause-fails g c =
     let files = g.R.Dir.Dir.files in
     let i = c.args.inputs.now in
     let olds = c.args.stream.now.readers.items in
-    handed_on (ExplainsStream files i olds) c.from_residual.result c.in_err-refill.field-0.0 c.from_residual.ensures.1
-    (explained_before files i c.in_err-refill.field-0.0 olds c.loop-number.stream.readers.items c.loop-number.invariant.later c.in_err-refill.ensures.damaged)
-
-pub returns-in_err-refill-clause-arm : goal.returns-in_err-refill-clause-arm
-returns-in_err-refill-clause-arm g c =
-    handed_arm c.from_residual.result c.in_err-refill.field-0.0 c.from_residual.ensures.1 (arm_then c.loop-number.invariant.arm (λ none. none) c.in_err-refill.ensures.arm)
+    handed_fails c.from_residual.result c.in_err-refill.field-0.0 c.from_residual.ensures.1
+    (explained_before files i c.in_err-refill.field-0.0 olds c.loop-number.stream.readers.items c.loop-number.invariant.later c.in_err-refill.ensures.fails.damaged)
+    (arm_then c.loop-number.invariant.arm (λ none. none) c.in_err-refill.ensures.fails.leaves)
 
 pub loop-number-preserved : goal.loop-number-preserved
 loop-number-preserved g c =
@@ -60,7 +50,7 @@ loop-number-preserved g c =
       unread = λ all j within r there. before.unread all j (omega (arith, within)) r (sym (c.in_ok-refill.ensures.reads.others j (λ e. omega (arith, e, within))) ∙ there);
       first = λ shaped all.
           first_more i (ahead_of mid.cursors.items) (ahead_of c.refill.new.stream.cursors.items) n (before.first shaped all) (c.in_ok-refill.ensures.reads.first shaped (before.unread all n (omega arith))) c.in_ok-refill.ensures.ahead;
-      arm = arm_calm before.arm (λ none. none) c.in_ok-refill.ensures.arm (λ none. none);
+      arm = arm_calm before.arm (λ none. none) c.in_ok-refill.ensures.fails.leaves (λ none. none);
     }
 
 pub returns-clause-rows : goal.returns-clause-rows
@@ -82,3 +72,9 @@ returns-clause-first g c = λ shaped all.
 
 pub returns-clause-most : goal.returns-clause-most
 returns-clause-most g c = λ shaped. (c.loop-number.invariant.stream.counts shaped).within
+
+pub returns-clause-fails : goal.returns-clause-fails
+returns-clause-fails g c = record {
+  damaged = tt;
+  leaves = c.loop-number.invariant.arm;
+}

@@ -1,25 +1,33 @@
 use Rattle.std.proofs.Common.{ℕ, ◌<◌, List, arith, drop, length, subst, sym}
 use Rattle.std.proofs.lemmas.List.{length-map}
+use Rattle.mt_outside.proofs.LeftArms.{arm_as, arm_same}
 use Rattle.mt_values.specs.Values.{Row}
-use Rattle.part_reader.specs.Faults.{IsNoDamage}
 use Rattle.part_reader.specs.Readings.{Reading}
-use Rattle.part_reader.proofs.Gaining.{handed_on}
 use Rattle.row_merge.specs.declared.heads.Cursor.{Cursor}
 use Rattle.row_merge.specs.Heads.{ahead_of}
 use Rattle.row_merge.specs.Streams.{AreLater, ExplainsStream, MayTake}
 use Rattle.row_merge.proofs.Explaining.{all_stay}
 use Rattle.row_merge.proofs.Nexts.{has_ahead, none_gives, none_has, taken_fewer, taken_in, takes_last, takes_row}
 use Rattle.row_merge.proofs.Refilling.{first_fails}
+use Rattle.row_merge.proofs.Failing.{handed_fails}
+use Rattle.row_merge.proofs.Written.{no_fault}
 use Rattle.row_merge.proofs.streams.next_row.Goals as goal
 
 -- an allocation failed
-pub returns-in_default-clause-damaged : goal.returns-in_default-clause-damaged
-returns-in_default-clause-damaged g c = first_fails g.R.Dir.Dir.files c.args.inputs.now c.args.stream.now c.requires.stream c.requires.some c.index-inputs-0.result c.index-inputs-0.is
+pub returns-in_default-clause-fails : goal.returns-in_default-clause-fails
+returns-in_default-clause-fails g c = record {
+  damaged = first_fails g.R.Dir.Dir.files c.args.inputs.now c.args.stream.now c.requires.stream c.requires.stream.inputs.some c.index-inputs-0.result c.index-inputs-0.is;
+  leaves = arm_as (arm_same c.args.arm.now) no_fault (λ none. absurd none);
+}
 
 -- no row is left
 pub returns-in_default-found-clause-gives : goal.returns-in_default-found-clause-gives
 returns-in_default-found-clause-gives g c = λ rows left holds at sorted.
-    none_gives c.args.stream.now rows left at (subst (MayTake c.args.inputs.now c.args.stream.now c.take_next.new.stream) c.in_default-found.is c.in-Ok.ensures.takes)
+    none_gives c.args.stream.now rows left at (subst (MayTake c.args.inputs.now c.args.stream.now c.take_next.new.stream) c.in_default-found.is c.in-Ok.ensures.takes).none
+
+pub returns-in_default-found-clause-idle : goal.returns-in_default-found-clause-idle
+returns-in_default-found-clause-idle g c = λ shaped is.
+    (subst (MayTake c.args.inputs.now c.args.stream.now c.take_next.new.stream) c.in_default-found.is c.in-Ok.ensures.takes).idle shaped
 
 -- the row's part has more rows in memory
 pub index-requires : goal.index-requires
@@ -76,16 +84,13 @@ refill-requires-clause-none g c = λ κs within.
     let none = none_has mid.cursors.items taken.0 c.index.result.now below c.index.ensures c.has_row.result c.has_row.ensures c.if-has_row.false in
     none
 
-pub returns-in_err-refill-clause-sound : goal.returns-in_err-refill-clause-sound
-returns-in_err-refill-clause-sound g c = λ rows holds.
-    handed_on (λ e. IsNoDamage e.1) c.from_residual.result c.in_err-refill.field-0.0 c.from_residual.ensures.1 (c.in_err-refill.ensures.sound rows holds)
-
-pub returns-in_err-refill-clause-damaged : goal.returns-in_err-refill-clause-damaged
-returns-in_err-refill-clause-damaged g c =
+pub returns-in_err-refill-clause-fails : goal.returns-in_err-refill-clause-fails
+returns-in_err-refill-clause-fails g c =
     let files = g.R.Dir.Dir.files in
     let i = c.args.inputs.now in
-    handed_on (ExplainsStream files i c.args.stream.now.readers.items) c.from_residual.result c.in_err-refill.field-0.0 c.from_residual.ensures.1
-    (subst (λ (rs : List (Reading _)). ExplainsStream files i rs c.in_err-refill.field-0.0) c.take_next.ensures.readers c.in_err-refill.ensures.damaged)
+    handed_fails c.from_residual.result c.in_err-refill.field-0.0 c.from_residual.ensures.1
+    (subst (λ (rs : List (Reading _)). ExplainsStream files i rs c.in_err-refill.field-0.0) c.take_next.ensures.readers c.in_err-refill.ensures.fails.damaged)
+    c.in_err-refill.ensures.fails.leaves
 
 pub returns-in_default-found-clause-goes_on : goal.returns-in_default-found-clause-goes_on
 returns-in_default-found-clause-goes_on g c =
@@ -131,3 +136,21 @@ returns-then-has_row-clause-rises g c = c.in-Ok.ensures.rises
 
 pub returns-clause-rises : goal.returns-clause-rises
 returns-clause-rises g c = omega (arith, c.in-Ok.ensures.rises, c.in_ok-refill.ensures.reads.most)
+
+pub returns-in_default-found-clause-fails : goal.returns-in_default-found-clause-fails
+returns-in_default-found-clause-fails g c = record {
+  damaged = tt;
+  leaves = arm_same c.args.arm.now;
+}
+
+pub returns-then-has_row-clause-fails : goal.returns-then-has_row-clause-fails
+returns-then-has_row-clause-fails g c = record {
+  damaged = tt;
+  leaves = arm_same c.args.arm.now;
+}
+
+pub returns-clause-fails : goal.returns-clause-fails
+returns-clause-fails g c = record {
+  damaged = tt;
+  leaves = c.in_ok-refill.ensures.fails.leaves;
+}

@@ -3,7 +3,6 @@ use Rattle.mt_outside.proofs.LeftArms.{arm_as}
 use Rattle.mt_values.specs.Schemas.{column_types}
 use Rattle.part_reader.specs.declared.reading.PartFault.TheVariants.{Fault, NoMemory}
 use Rattle.part_reader.specs.Readings.{GivesNext, LeavesRows, rows_left}
-use Rattle.part_reader.proofs.HeldColumns.{left_at}
 use Rattle.row_merge.specs.declared.heads.Cursor.{Cursor}
 use Rattle.row_merge.specs.Heads.{AreComparable, AreOfTypes, ahead_of}
 use Rattle.row_merge.specs.Held.{read_more}
@@ -22,24 +21,19 @@ pub index_mut-requires : goal.index_mut-requires
 index_mut-requires g c = let s = c.args.stream.now in omega (arith, s.readers.ok.0, reader_within g.R.Dir.Dir.files c.args.inputs.now s c.requires.stream c.args.number c.requires.within)
 
 -- the part could not be read
-pub returns-in-Err-clause-sound : goal.returns-in-Err-clause-sound
-returns-in-Err-clause-sound g c = λ rows holds.
-    let i = c.args.inputs.now in
-    let s = c.args.stream.now in
-    let files = g.R.Dir.Dir.files in
-    let r = c.index_mut.result.now in
-    left_at files r.schema r.part r.places _ (reader_held files i.schema.now i.parts.now s.readers.items rows c.args.number r c.requires.stream.readers holds c.requires.within c.index_mut.ensures.value)
-    r.left c.in-Err.fault c.in-Err.ensures.damaged
-
-pub returns-in-Err-clause-damaged : goal.returns-in-Err-clause-damaged
-returns-in-Err-clause-damaged g c =
+-- what the arm is then
+pub returns-in-Err-clause-fails : goal.returns-in-Err-clause-fails
+returns-in-Err-clause-fails g c =
     let i = c.args.inputs.now in
     let s = c.args.stream.now in
     let files = g.R.Dir.Dir.files in
     let k = c.index-inputs-number.result in
     let r = c.index_mut.result.now in
     let o : ReadsOn files i s c.args.number k r = record { stream = c.requires.stream; within = c.requires.within; none = c.requires.none; kept_is = c.index-inputs-number.is; r_is = c.index_mut.ensures.value } in
-    own_says files i s c.args.number k r o c.in-Err.fault c.in-Err.ensures.damaged
+    record {
+      damaged = own_says files i s c.args.number k r o c.in-Err.fault c.in-Err.ensures.damaged;
+      leaves = as_read c.next.result c.in-Err.fault c.in-Err.is c.next.ensures.arm;
+    }
 
 pub returns-in-Err-clause-most : goal.returns-in-Err-clause-most
 returns-in-Err-clause-most g c = λ shaped. (c.requires.stream.counts shaped).within
@@ -344,25 +338,27 @@ returns-clause-most g c =
     })
 
 -- an allocation failed
-pub returns-in_default-fill-clause-damaged : goal.returns-in_default-fill-clause-damaged
-returns-in_default-fill-clause-damaged g c =
+pub returns-in_default-fill-clause-fails : goal.returns-in_default-fill-clause-fails
+returns-in_default-fill-clause-fails g c =
     let i = c.args.inputs.now in
     let s = c.args.stream.now in
     let files = g.R.Dir.Dir.files in
     let k = c.index-inputs-number.result in
     let r = c.index_mut.result.now in
     let o : ReadsOn files i s c.args.number k r = record { stream = c.requires.stream; within = c.requires.within; none = c.requires.none; kept_is = c.index-inputs-number.is; r_is = c.index_mut.ensures.value } in
-    own_says files i s c.args.number k r o NoMemory tt
+    record {
+      damaged = own_says files i s c.args.number k r o NoMemory tt;
+      leaves = arm_as (as_none c.next.result c.in-Ok.found Fault c.in-Ok.is c.next.ensures.arm) no_fault (λ f. absurd f);
+    }
 
--- what the arm is then
-pub returns-in-Err-clause-arm : goal.returns-in-Err-clause-arm
-returns-in-Err-clause-arm g c = as_read c.next.result c.in-Err.fault c.in-Err.is c.next.ensures.arm
+pub returns-in_default-clause-fails : goal.returns-in_default-clause-fails
+returns-in_default-clause-fails g c = record {
+  damaged = tt;
+  leaves = as_none c.next.result c.in-Ok.found Fault c.in-Ok.is c.next.ensures.arm;
+}
 
-pub returns-in_default-clause-arm : goal.returns-in_default-clause-arm
-returns-in_default-clause-arm g c = as_none c.next.result c.in-Ok.found Fault c.in-Ok.is c.next.ensures.arm
-
-pub returns-in_default-fill-clause-arm : goal.returns-in_default-fill-clause-arm
-returns-in_default-fill-clause-arm g c = arm_as (as_none c.next.result c.in-Ok.found Fault c.in-Ok.is c.next.ensures.arm) no_fault (λ f. absurd f)
-
-pub returns-clause-arm : goal.returns-clause-arm
-returns-clause-arm g c = as_none c.next.result c.in-Ok.found Fault c.in-Ok.is c.next.ensures.arm
+pub returns-clause-fails : goal.returns-clause-fails
+returns-clause-fails g c = record {
+  damaged = tt;
+  leaves = as_none c.next.result c.in-Ok.found Fault c.in-Ok.is c.next.ensures.arm;
+}

@@ -6,7 +6,7 @@ use Rattle.row_merge.specs.declared.held.Held.{Held}
 use Rattle.row_merge.specs.Heads.{AreComparable, AreOfTypes, IsNoneAhead, IsTypedAs, ahead_of}
 use Rattle.row_merge.specs.Held.{IsHeldWithin}
 use Rattle.row_merge.specs.Merging.{AreRanked, TakesFirst}
-use Rattle.row_merge.proofs.Nexts.{counted_stream, taken_stream}
+use Rattle.row_merge.proofs.Nexts.{counted_stream, none_counted, taken_stream}
 use Rattle.row_merge.proofs.Opening.{comparable}
 use Rattle.row_merge.proofs.Refills.{lent_again}
 use Rattle.row_merge.proofs.Totals.{held_stays, took_within}
@@ -34,7 +34,8 @@ returns-in_default-clause-takes g c =
     let shown = c.deref_mut.result.now in
     let new = c.take_row.new.cursors in
     let none : IsNoneAhead shown new = subst (λ found. MatchOption found (IsNoneAhead shown new) (λ f. TakesFirst i.places.now (ahead_of shown) f.0 f.1 (ahead_of new))) c.in_default.is c.in_ok-taken.ensures.takes in
-    subst (λ (cs : List Cursor). All (λ (rows : List Row). rows ≡ []) (ahead_of cs)) c.deref_mut.ensures.value none.none
+    let own = subst (λ (cs : List Cursor). All (λ (rows : List Row). rows ≡ []) (ahead_of cs)) c.deref_mut.ensures.value none.none in
+    record { none = own; idle = none_counted i c.args.stream.now c.requires own }
 
 pub returns-in_default-clause-stream : goal.returns-in_default-clause-stream
 returns-in_default-clause-stream g c =
