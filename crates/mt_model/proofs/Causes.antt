@@ -40,7 +40,7 @@ use Rattle.mt_values.specs.declared.statement.InsertText.{InsertText}
 use Rattle.mt_values.specs.declared.statement.OptimizeText.{OptimizeText}
 use Rattle.mt_values.specs.declared.statement.SelectText.{SelectText}
 use Rattle.mt_model.specs.History.{History, schema_of, creates, column_types}
-use Rattle.mt_model.specs.Outside.{LevelFailed, Outside, HasRisen, ReadOrStageFailed, TurnFailed}
+use Rattle.mt_model.specs.Outside.{LevelFailed, Outside, HasRisen, PartBusy, ReadOrStageFailed, TurnFailed}
 use Rattle.mt_model.specs.Causes.{MeetsCause}
 use Rattle.mt_model.specs.Commands.{commands_for, commands_of, commands_of_rows, create_commands, no_commands, none_on}
 use Rattle.mt_model.specs.Numbers.{last_number}
@@ -263,15 +263,20 @@ by_stage n reply failed = by_outside n refusal.Failed reply failed.0 (omega arit
 
 by_turn : (n : Outside) (accepted : ℕ) (reply : List ℕ) → TurnFailed n accepted reply → Blames n reply
 by_turn n accepted reply (inl failed) = by_outside n (refusal.Unsettled accepted) reply failed.0 (omega arith) failed.1
-by_turn n accepted reply (inr (now, low, rose, is)) = by_outside n (refusal.Stopped n.opened now accepted) reply is (omega arith) (omega arith)
+by_turn n accepted reply (inr (now, low, ended, rose, is)) = by_outside n (refusal.Stopped n.opened now accepted) reply is (omega arith) ended
 
 -- a part of the greatest level is of the store
 by_level : (n : Outside) (reply : List ℕ) → LevelFailed n reply → Blames n reply
 by_level n reply failed = by_script n (refusal.Past bound.Levels) reply failed.0 (inl (omega arith))
 
+-- and so is one that is being merged
+by_busy : (n : Outside) (reply : List ℕ) → PartBusy n reply → Blames n reply
+by_busy n reply busy = by_script n (refusal.Busy busy.1) reply busy.2 (inl (omega arith))
+
 by_merge : (n : Outside) (o : OptimizeText) (reply : List ℕ) → MergeFailed n o reply → Blames n reply
 by_merge n o reply (inl failed) = by_stage n reply failed
-by_merge n o reply (inr (inl (whole, failed))) = by_level n reply failed
+by_merge n o reply (inr (inl (whole, inl failed))) = by_level n reply failed
+by_merge n o reply (inr (inl (whole, inr busy))) = by_busy n reply busy
 by_merge n o reply (inr (inr failed)) = by_turn n 0 reply failed
 
 commands_blame : (n : Outside) (h : History) (s : ℕ) (st : Statement) (from to : ℕ) (reply : List ℕ) → TakesCommands n h s st from to reply → Blames n reply
@@ -361,7 +366,7 @@ not_by_outside why reply is low high refuses = let e : code_of reply ≡ code wh
 
 not_by_turn : (n : Outside) (accepted : ℕ) (reply : List ℕ) → TurnFailed n accepted reply → is_refusal reply ≡ true → ⊥
 not_by_turn n accepted reply (inl failed) refuses = not_by_outside (refusal.Unsettled accepted) reply failed.0 (omega arith) (omega arith) refuses
-not_by_turn n accepted reply (inr stopped) refuses = not_by_outside (refusal.Stopped n.opened stopped.0 accepted) reply stopped.3 (omega arith) (omega arith) refuses
+not_by_turn n accepted reply (inr stopped) refuses = not_by_outside (refusal.Stopped n.opened stopped.0 accepted) reply stopped.4 (omega arith) (omega arith) refuses
 
 -- the commands that a statement gave up to some place it gives up to a later one
 gives_later : (h : History) (st : Statement) (from to : ℕ) (cs : List Command) → from ≤ to → commands_of (take from h) st ≡ Ok cs → commands_of (take to h) st ≡ Ok cs
@@ -380,13 +385,13 @@ commands_refused n h s st from to reply (inr (inr (inr (done, next, rest, stops,
     inr (done, next, rest, why, gives_later h st stops.seen to (done ++ next ∷ rest) later stops.gives, refuses_more (take to h) done next why which turn)
 commands_refused n h s st from to reply (inr (inr (inr (done, next, rest, stops, inr (allows, failed))))) refuses = absurd (not_by_turn n (length done) reply failed refuses)
 
--- a merge that failed is refused for no fault where a part has the greatest level
-merge_refused : (n : Outside) (o : OptimizeText) (reply : List ℕ) → MergeFailed n o reply → is_refusal reply ≡ true → LevelFailed n reply
+-- a merge that failed is refused for no fault where a part has the greatest level, or is being merged
+merge_refused : (n : Outside) (o : OptimizeText) (reply : List ℕ) → MergeFailed n o reply → is_refusal reply ≡ true → LevelFailed n reply ⊎ PartBusy n reply
 merge_refused n o reply (inl failed) refuses = absurd (not_by_outside refusal.Failed reply failed.0 (omega arith) (omega arith) refuses)
-merge_refused n o reply (inr (inl (whole, failed))) refuses = failed
+merge_refused n o reply (inr (inl (whole, why))) refuses = why
 merge_refused n o reply (inr (inr failed)) refuses = absurd (not_by_turn n 0 reply failed refuses)
 
-pub refused_by_cause : (n : Outside) (h : History) (s : ℕ) (st : Result Statement Cause) (from to : ℕ) (reply : List ℕ) → Takes n h s st from to reply → is_refusal reply ≡ true → MeetsCause (take to h) st ⊎ LevelFailed n reply
+pub refused_by_cause : (n : Outside) (h : History) (s : ℕ) (st : Result Statement Cause) (from to : ℕ) (reply : List ℕ) → Takes n h s st from to reply → is_refusal reply ≡ true → MeetsCause (take to h) st ⊎ LevelFailed n reply ⊎ PartBusy n reply
 refused_by_cause n h s (Ok (statement.Create c)) from to reply t refuses = inl (commands_refused n h s (statement.Create c) from to reply t refuses)
 refused_by_cause n h s (Ok (statement.Insert i)) from to reply t refuses = inl (commands_refused n h s (statement.Insert i) from to reply t refuses)
 refused_by_cause n h s (Ok (statement.Select t)) from to reply (inl (r, a)) refuses = absurd (not_by_none reply _ r.reply_is refl refuses)

@@ -95,11 +95,12 @@ no_number reply is same none some = let e = ap code_of same ∙ none in omega (a
 
 turn_failed : (n : Outside) (h : History) (s : ℕ) (done : List Command) (from to : ℕ) (reply : List ℕ) → AddsOnly h s done from to → TurnFailed n (length done) reply → Counted h s from to reply
 turn_failed n h s done from to reply a (inl failed) = (refusal.Unsettled (length done), done, failed.0, refl, a)
-turn_failed n h s done from to reply a (inr (now, low, rose, is)) = (refusal.Stopped n.opened now (length done), done, is, refl, a)
+turn_failed n h s done from to reply a (inr (now, low, ended, rose, is)) = (refusal.Stopped n.opened now (length done), done, is, refl, a)
 
 merge_counted : (n : Outside) (h : History) (s : ℕ) (o : OptimizeText) (from to : ℕ) (reply : List ℕ) → AddsNothing h s from to → MergeFailed n o reply → Counted h s from to reply
 merge_counted n h s o from to reply a (inl failed) = (refusal.Failed, [], failed.0, refl, adds_none h s from to a)
-merge_counted n h s o from to reply a (inr (inl (whole, failed))) = (refusal.Past bound.Levels, [], failed.0, refl, adds_none h s from to a)
+merge_counted n h s o from to reply a (inr (inl (whole, inl failed))) = (refusal.Past bound.Levels, [], failed.0, refl, adds_none h s from to a)
+merge_counted n h s o from to reply a (inr (inl (whole, inr busy))) = (refusal.Busy busy.1, [], busy.2, refl, adds_none h s from to a)
 merge_counted n h s o from to reply a (inr (inr failed)) = turn_failed n h s [] from to reply (adds_none h s from to a) failed
 
 commands_counted : (n : Outside) (h : History) (s : ℕ) (st : Statement) (from to : ℕ) (reply : List ℕ) → TakesCommands n h s st from to reply → 0 < code_of reply → Counted h s from to reply

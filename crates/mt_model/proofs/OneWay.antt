@@ -164,11 +164,12 @@ lines_are h schema t lines plain there answer =
 
 -- ---- where no count rose and no part has the greatest level, the outside refuses nothing
 
--- the count stands where it stood at opening, and not at its type's end; and no part has the greatest level
+-- the count stands where it stood at opening, and not at its type's end; no part has the greatest level; and nobody ran beside
 pub record IsCalm (n : Outside) : Type 0 where
   pub still : n.ended ≡ n.opened
   pub below : n.ended < 2 ^ 64 - 1
   pub room : n.full ≡ false
+  pub alone : n.company ≡ false
 
 never_rose : (n : Outside) (now : ℕ) → IsCalm n → now ≤ n.ended → HasRisen n now → ⊥
 never_rose n now calm low rose = let still : n.ended ≡ n.opened = calm.still in let below : n.ended < 2 ^ 64 - 1 = calm.below in omega arith
@@ -178,11 +179,12 @@ never_failed n reply calm failed = never_rose n n.ended calm (omega arith) faile
 
 pub never_in_turn : (n : Outside) (accepted : ℕ) (reply : List ℕ) → IsCalm n → TurnFailed n accepted reply → ⊥
 never_in_turn n accepted reply calm (inl failed) = never_rose n n.ended calm (omega arith) failed.1
-never_in_turn n accepted reply calm (inr (now, low, rose, is)) = never_rose n now calm low rose
+never_in_turn n accepted reply calm (inr (now, low, ended, rose, is)) = never_rose n n.ended calm (omega arith) ended
 
 pub never_merging : (n : Outside) (o : OptimizeText) (reply : List ℕ) → IsCalm n → MergeFailed n o reply → ⊥
 never_merging n o reply calm (inl failed) = never_failed n reply calm failed
-never_merging n o reply calm (inr (inl (whole, failed))) = false≢true (sym calm.room ∙ failed.1)
+never_merging n o reply calm (inr (inl (whole, inl failed))) = false≢true (sym calm.room ∙ failed.1)
+never_merging n o reply calm (inr (inl (whole, inr busy))) = false≢true (sym calm.alone ∙ busy.0)
 never_merging n o reply calm (inr (inr failed)) = never_in_turn n 0 reply calm failed
 
 -- ---- where a partition has fewer INSERTs than 3000, a turn is determined
@@ -433,9 +435,9 @@ script_ran n calm h ss base out others few plain r =
     (found.out_is, sym whole ∙ found.end_is)
 
 -- what a script without an EXPLAIN prints after a base, and each command that is accepted, are determined where no count rose, no part has the greatest level, and one of the histories has few INSERTs and plain tables alone
-pub one_way : (n : Outside) (script : List (Result Statement Cause)) (h g : History) (base : ℕ) (a b : List ℕ) → n.ended ≡ n.opened → n.ended < 2 ^ 64 - 1 → n.full ≡ false → FewInserts h → ArePlain h → HasNoExplain script → take base h ≡ take base g → ScriptRun n script h base a → ScriptRun n script g base b → (a ≡ b) × (h ≡ g)
-one_way n script h g base a b still below room few plain others same one two =
-    let calm : IsCalm n = record { still = still; below = below; room = room } in
+pub one_way : (n : Outside) (script : List (Result Statement Cause)) (h g : History) (base : ℕ) (a b : List ℕ) → n.ended ≡ n.opened → n.ended < 2 ^ 64 - 1 → n.full ≡ false → n.company ≡ false → FewInserts h → ArePlain h → HasNoExplain script → take base h ≡ take base g → ScriptRun n script h base a → ScriptRun n script g base b → (a ≡ b) × (h ≡ g)
+one_way n script h g base a b still below room alone few plain others same one two =
+    let calm : IsCalm n = record { still = still; below = below; room = room; alone = alone } in
     let left = script_ran n calm h script base a others (inl few) (inl plain) one in
     let end : h ≡ end_of script (take base g) = left.1 ∙ ap (end_of script) same in
     let right = script_ran n calm g script base b others (inr (subst FewInserts end few)) (inr (subst ArePlain end plain)) two in

@@ -16,6 +16,7 @@ code_of_line (refusal.Field line field) = refl
 code_of_line (refusal.Past b) = refl
 code_of_line (refusal.Full which accepted) = refl
 code_of_line (refusal.Unended rows) = refl
+code_of_line (refusal.Busy part) = refl
 code_of_line refusal.Failed = refl
 code_of_line (refusal.Unsettled accepted) = refl
 code_of_line (refusal.Stopped opened now accepted) = refl

@@ -85,6 +85,6 @@ none_in n calm h base own (s ∷ ss) from to (reply ∷ replies) past run none =
     let rest = none_in n calm h base own ss run.0 to replies later run.2 (subst (λ (x : History). NoneMeetsCause x ss) (sym step.0) none.1) in
     rw step.1 rest
 
-pub none_refused : (n : Outside) (script : List (Result Statement Cause)) (h : History) (base : ℕ) (replies : List (List ℕ)) → n.ended ≡ n.opened → n.ended < 2 ^ 64 - 1 → n.full ≡ false → ScriptReplies n script h base replies → NoneMeetsCause (take base h) script
+pub none_refused : (n : Outside) (script : List (Result Statement Cause)) (h : History) (base : ℕ) (replies : List (List ℕ)) → n.ended ≡ n.opened → n.ended < 2 ^ 64 - 1 → n.full ≡ false → n.company ≡ false → ScriptReplies n script h base replies → NoneMeetsCause (take base h) script
     → list_any is_refusal replies ≡ false
-none_refused n script h base replies still below room each none = none_in n (record { still = still; below = below; room = room }) h base each.sessions script base each.last replies (omega arith) each.run none
+none_refused n script h base replies still below room alone each none = none_in n (record { still = still; below = below; room = room; alone = alone }) h base each.sessions script base each.last replies (omega arith) each.run none

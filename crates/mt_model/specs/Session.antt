@@ -14,7 +14,7 @@ use Rattle.mt_model.specs.declared.refusal.Refusal.{Refusal}
 use Rattle.mt_model.specs.Explain.{Explains}
 use Rattle.mt_model.specs.History.{History, schema_of, inserts, own}
 use Rattle.mt_model.specs.Numbers.{last_number}
-use Rattle.mt_model.specs.Outside.{LevelFailed, Outside, ReadOrStageFailed, TurnFailed}
+use Rattle.mt_model.specs.Outside.{LevelFailed, Outside, PartBusy, ReadOrStageFailed, TurnFailed}
 use Rattle.mt_model.specs.Refusals.{refusal_line, refusal_of_cause}
 use Rattle.mt_model.specs.declared.query.Query.{Query}
 use Rattle.mt_model.specs.Queries.{query_of_select}
@@ -114,10 +114,11 @@ abbrev pub ExplainRefused : History → ℕ → SelectText → ℕ → ℕ → L
 ExplainRefused h session s from to reply =
     (why : Refusal) × (query_of_select s (take to h) ≡ Err why) × RefusedAs h session from to why reply
 
--- what the outside may refuse an OPTIMIZE for: its parts were not read, or what they became was not written; a part that FINAL takes has the greatest level; or
--- the commit failed or was stopped. It has no command, so none was accepted (docs/definitions-of-runs.md, "Statements taken").
+-- what the outside may refuse an OPTIMIZE for: its parts were not read, or what they became was not written; a part that FINAL takes has the greatest level, or
+-- is being merged already; or the commit failed or was stopped. It has no command, so none was accepted (docs/definitions-of-runs.md, "Statements taken").
 abbrev pub MergeFailed : Outside → OptimizeText → List ℕ → Type 0
-MergeFailed n o reply = ReadOrStageFailed n reply ⊎ ((o.whole ≡ true) × LevelFailed n reply) ⊎ TurnFailed n 0 reply
+MergeFailed n o reply =
+    ReadOrStageFailed n reply ⊎ ((o.whole ≡ true) × (LevelFailed n reply ⊎ PartBusy n reply)) ⊎ TurnFailed n 0 reply
 
 -- An OPTIMIZE may have this reply: its table is there, and nothing is accepted; or it is refused, by its table, or by the outside once that is there. Which
 -- parts are merged by then no reply tells (docs/definitions-of-runs.md, "Statements taken"; ClickHouse, OPTIMIZE).

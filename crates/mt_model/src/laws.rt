@@ -43,7 +43,7 @@ ghost use Rattle.mt_model.specs.Numbers.{mutations_in};
 ghost use Rattle.mt_model.specs.Partial.{MergesAll, Partly};
 ghost use Rattle.mt_model.specs.Answer.{Answer, Prints};
 ghost use Rattle.mt_model.specs.Final.{Sees};
-ghost use Rattle.mt_model.specs.Outside.{HasRisen, LevelFailed, Outside};
+ghost use Rattle.mt_model.specs.Outside.{HasRisen, LevelFailed, Outside, PartBusy};
 ghost use Rattle.mt_model.specs.Refusals.{accepted_by, code, code_of, is_damage, is_refusal, refusal_line};
 ghost use Rattle.mt_model.specs.Reply.{create_turn, ok_line, rows_reply, schema_of_text};
 ghost use Rattle.mt_model.specs.Session.{AddsOnly, SessionRun, Takes};
@@ -208,15 +208,17 @@ pub fn faults_are_of_the_outside()
 {}
 
 /// A statement is refused for no fault only where it meets a cause at its place, or where a part that it merges has the greatest level, which a
-/// part has at the end then. Where the disk's count did not rise and stands below its type's end, no part has the greatest level at the end, and
-/// none of a script's statements meets a cause after those before it, none of them is refused.
+/// part has at the end then, or is being merged by others who run beside. Where the disk's count did not rise and stands below its type's end, no
+/// part has the greatest level at the end, nobody runs beside, and none of a script's statements meets a cause after those before it, none of them
+/// is refused.
 pub fn refusals_have_a_cause()
     ensures one { (n : Outside) (h : History) (session : ℕ) (statement : Item) (from to : ℕ)
         (reply : List ℕ) → Takes n h session statement from to reply → is_refusal reply ≡ true
-        → MeetsCause (take to h) statement ⊎ LevelFailed n reply }
+        → MeetsCause (take to h) statement ⊎ LevelFailed n reply ⊎ PartBusy n reply }
     ensures script { (n : Outside) (script : List Item) (h : History) (base : ℕ)
         (replies : List (List ℕ)) → n.ended ≡ n.opened → n.ended < 2 ^ 64 - 1 → n.full ≡ false
-        → ScriptReplies n script h base replies → NoneMeetsCause (take base h) script
+        → n.company ≡ false → ScriptReplies n script h base replies
+        → NoneMeetsCause (take base h) script
         → list_any is_refusal replies ≡ false }
 {}
 
@@ -234,23 +236,25 @@ pub fn runs_stay_as_histories_grow()
         → SessionRun n (h ++ more) session statements from to out }
 {}
 
-/// What a session printed stays right as the disk's count of faults rises, and as a part comes to have the greatest level.
+/// What a session printed stays right as the disk's count of faults rises, as a part comes to have the greatest level, and as others
+/// come to run beside.
 pub fn runs_stay_as_counts_rise()
     ensures { (n m : Outside) (h : History) (session : ℕ) (statements : List Item) (from to : ℕ)
         (out : List ℕ) → n.opened ≡ m.opened → n.ended ≤ m.ended → (n.full ≡ true → m.full ≡ true)
+        → (n.company ≡ true → m.company ≡ true)
         → SessionRun n h session statements from to out
         → SessionRun m h session statements from to out }
 {}
 
 /// A script without an EXPLAIN that runs after a base has one run only, where the disk's count did not rise and stands below
-/// its type's end, no part has the greatest level at the end, and in one of the two histories no partition of a table has 3000
+/// its type's end, no part has the greatest level at the end, nobody runs beside, and in one of the two histories no partition of a table has 3000
 /// INSERTs and every table is plain: what it prints, and each command that is accepted, are determined, whatever its OPTIMIZEs
 /// merge. A partition with 3000 INSERTs may have 3000 parts or fewer, by what was merged, and refuse the next one or not; and an
 /// EXPLAIN counts parts and granules as merges left them.
 pub fn scripts_run_in_one_way()
     ensures { (n : Outside) (script : List Item) (h g : History) (base : ℕ) (a b : List ℕ)
-        → n.ended ≡ n.opened → n.ended < 2 ^ 64 - 1 → n.full ≡ false → FewInserts h → ArePlain h
-        → HasNoExplain script → take base h ≡ take base g → ScriptRun n script h base a
+        → n.ended ≡ n.opened → n.ended < 2 ^ 64 - 1 → n.full ≡ false → n.company ≡ false
+        → FewInserts h → ArePlain h → HasNoExplain script → take base h ≡ take base g → ScriptRun n script h base a
         → ScriptRun n script g base b → (a ≡ b) × (h ≡ g) }
 {}
 

@@ -83,6 +83,7 @@ fn refusal_text(alloc: Global, refusal: &Refusal) -> Result<Vec<u8>, NoMemory>
         Refusal::Past(bound) => text_of(alloc, bound_text(*bound)),
         Refusal::Full { room, accepted } => numbered(alloc, room_text(*room), *accepted as u64),
         Refusal::Unended { rows } => numbered(alloc, b"E13", *rows as u64),
+        Refusal::Busy(part) => named(alloc, b"E14", part),
         Refusal::Failed => text_of(alloc, b"E15"),
         Refusal::Unsettled { accepted } => numbered(alloc, b"E16", *accepted as u64),
         Refusal::Stopped {

@@ -111,6 +111,8 @@ pub enum Refusal {
     Unended {
         rows: usize,
     },
+    /// The part of this name, which is to be merged, is being merged already.
+    Busy(Name),
     /// A read, a stage, an append or a file's sync failed.
     Failed,
     /// A publish or the sync of the names failed, after so many of the statement's commands were accepted.
@@ -199,6 +201,7 @@ impl Refusal {
             Refusal::Past(_) => 12,
             Refusal::Full { .. } => 12,
             Refusal::Unended { .. } => 13,
+            Refusal::Busy(_) => 14,
             Refusal::Failed => 15,
             Refusal::Unsettled { .. } => 16,
             Refusal::Stopped { .. } => 17,

@@ -31,7 +31,7 @@ use Rattle.mt_plain.proofs.Turning.{whole}
 
 -- an outside without a fault and without a part of the greatest level is calm
 pub calm_is : IsCalm calm
-calm_is = record { still = refl; below = omega arith; room = refl }
+calm_is = record { still = refl; below = omega arith; room = refl; alone = refl }
 
 -- ---- answers
 

@@ -16,9 +16,9 @@ use Rattle.part_history.specs.mt_model.Reply.{create_turn, insert_turn, number_t
 use Rattle.part_history.specs.mt_model.Script.{OwnEntries}
 use Rattle.part_history.specs.mt_model.Session.{Takes}
 
--- an outside without a fault, and without a part of the greatest level
+-- an outside without a fault, without a part of the greatest level, and with nobody else who runs
 abbrev pub calm : Outside
-calm = record { opened = 0; ended = 0; full = false }
+calm = record { opened = 0; ended = 0; full = false; company = false }
 
 -- why a command is refused at its turn, after so many of its statement's commands; nothing was merged, so a partition has one part an INSERT
 abbrev pub unmerged_turn : History → ℕ → Command → Option Refusal

@@ -37,7 +37,7 @@ pub was_stopped : {full : Bool} (opened disk arm now accepted : ℕ) (reply : Li
 was_stopped opened disk arm now accepted reply n low high is f =
     let at = f.opened_is in
     let later = f.later in
-    inr (now, omega arith, omega arith, is ∙ ap (λ o. refusal_line (refusal.Stopped o now accepted)) (sym at))
+    inr (now, (λ alone. omega arith), omega arith, omega arith, is ∙ ap (λ o. refusal_line (refusal.Stopped o now accepted)) (sym at))
 
 -- a part of the greatest level stands now
 pub level_failed : (opened disk arm : ℕ) (reply : List ℕ) (n : Outside) → reply ≡ refusal_line (refusal.Past bound.Levels) → Foresees opened disk arm true n → LevelFailed n reply
@@ -50,7 +50,7 @@ not_as_opened opened before now low below rose same = absurd (omega arith)
 -- some counts agree with any state
 pub some_counts : (opened disk arm : ℕ) (full : Bool) → (n : Outside) × Foresees opened disk arm full n
 some_counts opened disk arm full = (
-  record { opened = opened; ended = opened + 1 + disk; full = full },
+  record { opened = opened; ended = opened + 1 + disk; full = full; company = false },
   record { opened_is = refl; later = omega arith; risen = λ some. omega arith; stays = λ is. is },
 )
 

@@ -1,6 +1,7 @@
 pub mod Causing
 pub mod Counting
 pub mod Ends
+pub mod Meeting
 pub mod Refusing
 pub mod Undamaged
 pub use Rattle.mt_model.proofs.Causes as MtModelCauses

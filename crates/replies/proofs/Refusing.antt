@@ -16,9 +16,9 @@ use Rattle.mt_model.specs.Refusals.{refusal_line, refusal_of_cause}
 use Rattle.mt_model.specs.Queries.{query_of_select}
 use Rattle.mt_model.specs.Reply.{ok_line}
 use Rattle.mt_model.specs.declared.query.Query.{Query}
-use Rattle.mt_model.specs.Session.{MergeFailed, RefusedAs, RefusedInTurn, StopsAfter, Takes, TakesCommands, TakesOptimize, TurnAllows, TurnRefuses}
+use Rattle.mt_model.specs.Session.{AddsNothing, MergeFailed, RefusedAs, RefusedInTurn, StopsAfter, Takes, TakesCommands, TakesOptimize, TurnAllows, TurnRefuses}
 use Rattle.replies.specs.Foreseen.{history}
-use Rattle.replies.proofs.Ends.{whole_front, added_nothing}
+use Rattle.replies.proofs.Ends.{added_nothing, adds_nothing, all_front, whole_front}
 
 -- a statement that stops before its first command, at the end of what the annals list
 pub stops_first : (kept : Told) (s : Statement) (next : Command) (rest : List Command) → commands_of (history kept) s ≡ Ok (next ∷ rest)
@@ -63,19 +63,6 @@ module _ (n : Outside) (kept : Told) (reply : List ℕ) where
       pub command_unsettled : TurnAllows (history kept) next → TurnFailed n 0 reply → Replied
       command_unsettled turn failed = at_turn (inr (turn, failed))
 
-  module _ (s : SelectText) where
-    pub select_refused : (why : Refusal) → query_of_select s (history kept) ≡ Err why → reply ≡ refusal_line why → Takes n (history kept) 0 (Ok (statement.Select s)) (length kept.list) (length kept.list) reply
-    select_refused why asked is = inr (inl (why, ap (query_of_select s) (whole_front kept) ∙ asked, refused why is))
-
-    pub select_failed : (query : Query) → query_of_select s (history kept) ≡ Ok query → ReadOrStageFailed n reply → Takes n (history kept) 0 (Ok (statement.Select s)) (length kept.list) (length kept.list) reply
-    select_failed query is failed = inr (inr (query, ap (query_of_select s) (whole_front kept) ∙ is, added_nothing kept, failed))
-
-    pub explain_refused : (why : Refusal) → query_of_select s (history kept) ≡ Err why → reply ≡ refusal_line why → Takes n (history kept) 0 (Ok (statement.Explain s)) (length kept.list) (length kept.list) reply
-    explain_refused why asked is = inr (why, ap (query_of_select s) (whole_front kept) ∙ asked, refused why is)
-
-    pub explains_all : Explains (history kept) s (length kept.list) reply → Takes n (history kept) 0 (Ok (statement.Explain s)) (length kept.list) (length kept.list) reply
-    explains_all explains = inl (subst (λ (h : History). Explains h s (length kept.list) reply) (sym (whole_front kept)) explains, added_nothing kept)
-
   -- an OPTIMIZE
   module _ (o : OptimizeText) where
     abbrev Optimized : Type 0
@@ -95,3 +82,31 @@ module _ (n : Outside) (kept : Told) (reply : List ℕ) where
   -- a text that is no statement
   pub text_refused : (why : Cause) → reply ≡ refusal_line (refusal_of_cause why) → Takes n (history kept) 0 (Err why) (length kept.list) (length kept.list) reply
   text_refused why is = refused (refusal_of_cause why) is
+
+-- a SELECT or an EXPLAIN at the end of a history, of any session
+module _ (n : Outside) (h : History) (session : ℕ) (s : SelectText) (reply : List ℕ) where
+  read_refused : (why : Refusal) → reply ≡ refusal_line why → RefusedAs h session (length h) (length h) why reply
+  read_refused why is = record { line = is; nothing = adds_nothing h session }
+
+  pub select_refused : (why : Refusal) → query_of_select s h ≡ Err why → reply ≡ refusal_line why → Takes n h session (Ok (statement.Select s)) (length h) (length h) reply
+  select_refused why asked is = inr (inl (why, ap (query_of_select s) (all_front h) ∙ asked, read_refused why is))
+
+  pub select_failed : (query : Query) → query_of_select s h ≡ Ok query → ReadOrStageFailed n reply → Takes n h session (Ok (statement.Select s)) (length h) (length h) reply
+  select_failed query is failed = inr (inr (query, ap (query_of_select s) (all_front h) ∙ is, adds_nothing h session, failed))
+
+  pub explain_refused : (why : Refusal) → query_of_select s h ≡ Err why → reply ≡ refusal_line why → Takes n h session (Ok (statement.Explain s)) (length h) (length h) reply
+  explain_refused why asked is = inr (why, ap (query_of_select s) (all_front h) ∙ asked, read_refused why is)
+
+  pub explains_all : Explains h s (length h) reply → Takes n h session (Ok (statement.Explain s)) (length h) (length h) reply
+  explains_all explains = inl (subst (λ (x : History). Explains x s (length h) reply) (sym (all_front h)) explains, adds_nothing h session)
+
+  -- who added nothing since may have begun before
+  module _ (from : ℕ) (nothing : AddsNothing h session from (length h)) where
+    pub select_from : Takes n h session (Ok (statement.Select s)) (length h) (length h) reply → Takes n h session (Ok (statement.Select s)) from (length h) reply
+    select_from (inl (selects, none)) = inl (selects, nothing)
+    select_from (inr (inl (why, asked, r))) = inr (inl (why, asked, record { line = r.line; nothing = nothing }))
+    select_from (inr (inr (query, asked, none, failed))) = inr (inr (query, asked, nothing, failed))
+
+    pub explain_from : Takes n h session (Ok (statement.Explain s)) (length h) (length h) reply → Takes n h session (Ok (statement.Explain s)) from (length h) reply
+    explain_from (inl (explains, none)) = inl (explains, nothing)
+    explain_from (inr (why, asked, r)) = inr (why, asked, record { line = r.line; nothing = nothing })

@@ -11,7 +11,9 @@ mod tally;
 mod writing;
 
 pub use forming::{MergeReplies, Replies, merge_replies, replies_after};
-pub use lines::{damaged, data_line, failed_line, no_table_line, stage_line, unsettled_line};
+pub use lines::{
+    busy_line, damaged, data_line, failed_line, no_table_line, stage_line, unsettled_line,
+};
 pub use mt_model;
 pub use ok_line::OkLine;
 pub use printing::{explained, print};

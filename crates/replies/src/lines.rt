@@ -54,6 +54,16 @@ pub fn failed_line(alloc: Global) -> Result<Reply, NoMemory>
     Reply::refused(alloc, &Refusal::Failed)
 }
 
+/// The reply to an OPTIMIZE with FINAL that met a part which is being merged already.
+///
+/// `NoMemory` where an allocation failed.
+pub fn busy_line(alloc: Global, part: &PartName) -> Result<Reply, NoMemory>
+    ensures { IfOk result (λ line. line ≡ refusal_line (refusal.Busy (part_text part.now))) }
+{
+    let why = Refusal::Busy(Seq::of(part_text(alloc, part)?));
+    Reply::refused(alloc, &why)
+}
+
 /// The reply to a command whose publish or whose sync failed, after some commands of its statement were accepted. It is formed before
 /// the commit.
 ///
