@@ -2,6 +2,7 @@ pub mod Clearing
 pub mod Dots
 pub mod Filed
 pub mod Founds
+pub mod Freeing
 pub mod GroupSteps
 pub mod Inserts
 pub mod Items

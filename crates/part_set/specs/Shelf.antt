@@ -1,5 +1,5 @@
 -- What is kept for one table, partition by partition (docs/definitions.md, "The set of parts").
-use Rattle.std.specs.Prelude.{◌≡◌, ℕ, List, flat_map, Option, Some, None}
+use Rattle.std.specs.Prelude.{◌≡◌, ℕ, false, List, flat_map, map, Option, Some, None}
 use Rattle.std.specs.BTreeMap.{is_at}
 use Rattle.std.specs.List.{All}
 use Rattle.std.specs.List.Sorted.{IsStrictlySortedBy}
@@ -8,6 +8,7 @@ use Rattle.std.specs.Ordering.{nat_cmp}
 use Rattle.mt_base.specs.declared.partition.Partition.{Partition}
 use Rattle.part_set.specs.declared.kept.Kept.{Kept}
 use Rattle.part_set.specs.Parts.{IsInBlockOrder, partition_rank}
+use Rattle.part_set.specs.Runs.{with_mark}
 
 -- the parts of one partition, and how many more fit without memory
 pub record Shelf (P : Type 0) : Type 0 where
@@ -35,3 +36,11 @@ pub record IsFiled {P : Type 0} (s : ℕ × Shelf P) : Type 0 where
 pub record AreFiled {P : Type 0} (shelves : List (ℕ × Shelf P)) : Type 0 where
   pub rise : IsStrictlySortedBy nat_cmp (keys_of shelves)
   pub filed : All IsFiled shelves
+
+-- the shelf with the same parts, none of which bears a mark
+abbrev pub freed_shelf : {P : Type 0} → Shelf P → Shelf P
+freed_shelf shelf = record { parts = map (with_mark false) shelf.parts; room = shelf.room }
+
+-- and so all shelves of a table
+abbrev pub freed_shelves : {P : Type 0} → List (ℕ × Shelf P) → List (ℕ × Shelf P)
+freed_shelves {P} shelves = map (λ (s : ℕ × Shelf P). (s.0, freed_shelf s.1)) shelves

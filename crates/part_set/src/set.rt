@@ -6,7 +6,7 @@ ghost use Rattle.std.specs.List.{All};
 ghost use Rattle.std.specs.Ordering.{nat_cmp};
 ghost use Rattle.mt_base.specs.declared.partition.Partition.{Partition as Part};
 ghost use Rattle.part_set.specs.Parts.{AreNeighbours, HasName, IsAdded, IsInBlockOrder, NoneMeets, kept_in};
-ghost use Rattle.part_set.specs.Runs.{EndsInOrder, IsBusyRun, IsMarked, IsMissing, IsRun, IsSwapped, Spans, cleared, names_of_parts, parts_of_run};
+ghost use Rattle.part_set.specs.Runs.{EndsInOrder, IsBusyRun, IsMarked, IsMissing, IsRun, IsSwapped, Spans, cleared, names_of_parts, parts_of_run, with_mark};
 ghost use Rattle.part_set.specs.Sets.{HasRoom, IsPut, parts_of, shelves_of};
 
 use crate::found::find_run;
@@ -128,6 +128,18 @@ impl<P> PartSet<P> {
 }
 
 impl<P: Drop> PartSet<P> {
+    /// No part of any table bears a mark any more. Takes no memory.
+    pub fn clear_all_marks(&mut self)
+        ensures cleared { (t : List ℕ) → parts_of self.new t
+            ≡ map (with_mark false) (parts_of self.old t) }
+        ensures rooms { (t : List ℕ) (p : Part) → HasRoom self.old t p → HasRoom self.new t p }
+    {
+        self.tables.retain(|_, parts| {
+            parts.clear_all();
+            true
+        });
+    }
+
     /// Makes room, so that adding one part of this partition to the table takes no memory.
     ///
     /// `NoMemory` where an allocation failed; the parts stay.

@@ -3,6 +3,7 @@ ghost use Rattle.std.specs.Prelude.{◌≡◌, ◌+◌, ◌<◌, ◌≤◌, ◌�
 ghost use Rattle.std.specs.List.{All, AllWithin};
 ghost use Rattle.part_set.specs.Parts.{AreNeighbours, HasName, IsAdded, IsInBlockOrder, NoneMeets, in_order};
 ghost use Rattle.part_set.specs.Runs.{EndsInOrder, IsRun, Spans, cleared, parts_of_run, with_mark};
+ghost use Rattle.part_set.specs.Shelf.{freed_shelf};
 
 use crate::order::{in_order, lies_between};
 use crate::{Kept, Run};
@@ -104,6 +105,13 @@ impl<P> PartitionParts<P> {
         clear_named(&mut self.parts, name);
     }
 
+    /// No part bears a mark any more. Takes no memory.
+    pub(crate) fn clear_all(&mut self)
+        ensures { self.new ≡ freed_shelf self.old }
+    {
+        mark_all(&mut self.parts, false);
+    }
+
     /// Makes room for one more part.
     ///
     /// `NoMemory` where there was none; the parts stay.
@@ -164,6 +172,18 @@ fn mark_run<P>(parts: &mut Vec<Kept<P>>, run: Run, busy: bool)
 {
     let end = run.first + run.count;
     mark(parts.slice_mut(run.first..end), busy);
+}
+
+// Each of all parts bears the mark, or bears it no more.
+fn mark_all<P>(parts: &mut Vec<Kept<P>>, busy: bool)
+    ensures items { parts.new.items ≡ map (with_mark busy) parts.old.items }
+    ensures capacity { vec_capacity parts.new ≡ vec_capacity parts.old }
+{
+    let count = parts.len();
+    if count == 0 {
+        return;
+    }
+    mark_run(parts, Run { first: 0, count }, busy);
 }
 
 // Each of the parts that has this name bears no mark any more.

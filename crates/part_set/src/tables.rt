@@ -7,7 +7,7 @@ ghost use Rattle.std.specs.List.{All};
 ghost use Rattle.mt_base.specs.declared.partition.Partition.{Partition as Part};
 ghost use Rattle.part_set.specs.Parts.{AreNeighbours, HasName, IsAdded, IsInBlockOrder, NoneMeets, kept_in};
 ghost use Rattle.part_set.specs.Runs.{EndsInOrder, IsMarked, IsRun, IsSwapped, Spans, cleared, names_of_parts, parts_of_run};
-ghost use Rattle.part_set.specs.Shelf.{AreFiled, all_parts, room_of, shelf_at};
+ghost use Rattle.part_set.specs.Shelf.{AreFiled, all_parts, freed_shelves, room_of, shelf_at};
 
 use crate::order::partition_rank;
 use crate::shelf::{PartitionParts, are_neighbours, has_name};
@@ -123,6 +123,16 @@ impl<P> TableParts<P> {
 }
 
 impl<P: Drop> TableParts<P> {
+    /// No part bears a mark any more. Takes no memory.
+    pub(crate) fn clear_all(&mut self)
+        ensures { self.new ≡ freed_shelves self.old }
+    {
+        self.partitions.retain(|_, parts| {
+            parts.clear_all();
+            true
+        });
+    }
+
     /// Makes room for one more part of a partition.
     ///
     /// `NoMemory` where an allocation failed; the parts stay.

@@ -29,6 +29,7 @@ pub mod Partitions
 pub mod Placed
 pub mod PutEvents
 pub mod RunRows
+pub mod RunStands
 pub mod SameStores
 pub mod Shown
 pub mod Sounding
@@ -36,6 +37,7 @@ pub mod StartedAgain
 pub mod TurnCrashes
 pub mod Turning
 pub mod Updated
+pub use Rattle.root_store.proofs.MtModelHistories
 pub use Rattle.root_store.proofs.MtModelTables
 pub use Rattle.root_store.proofs.PartReaderCutRows
 pub use Rattle.root_store.proofs.PartReaderHolding
