@@ -1,5 +1,5 @@
 -- Parts of the greatest level and marks of parts, and what a turn leaves of them.
-use Rattle.std.proofs.Common.{◌≡◌, ◌⊎◌, ◌||◌, ℕ, Bool, true, false, List, [], ◌∷◌, ◌++◌, length, map, get_or, ◌<◌, Option, Some, None, Result, Ok, Err, refl, sym, ap, ◌∙◌, ◌≤◌, subst, inl, inr, arith}
+use Rattle.std.proofs.Common.{◌≡◌, ◌⊎◌, ◌||◌, ℕ, Bool, true, false, cond, is_some, nat_le, nat_lt, List, [], ◌∷◌, ◌++◌, length, map, get_or, ◌<◌, Option, Some, None, Result, Ok, Err, refl, sym, ap, ◌∙◌, ◌≤◌, subst, inl, inr, arith}
 use Rattle.std.specs.BTreeMap.{is_at}
 use Rattle.std.specs.Cmp.Lexicographic.{slice_cmp}
 use Rattle.std.specs.List.{All, Contains as HasItem, list_any}
@@ -17,6 +17,10 @@ use Rattle.mt_values.specs.declared.command.Create.{Create}
 use Rattle.mt_values.specs.declared.schema.Schema.{Schema}
 use Rattle.mt_values.specs.Grammar.{same_bytes}
 use Rattle.mt_outside.specs.Files.{Files}
+use Rattle.root_commits.specs.durable_commit.declared.causes.Limit.TheVariants as limit
+use Rattle.root_commits.specs.durable_commit.declared.causes.Refused.{Refused}
+use Rattle.root_commits.specs.durable_commit.declared.causes.Refused.TheVariants as refused
+use Rattle.root_commits.specs.durable_commit.Commits.{IsOutside, stopped_by}
 use Rattle.root_commits.specs.part_name.declared.part.PartName.{PartName}
 use Rattle.root_commits.specs.part_writer.declared.loaded.Loaded.{Loaded}
 use Rattle.root_commits.specs.part_reader.declared.reading.Part.{Part}
@@ -30,7 +34,7 @@ use Rattle.root_commits.proofs.PartSetShelving.{mine_within}
 use Rattle.root_commits.specs.part_set.Sets.{parts_of}
 use Rattle.root_commits.proofs.PartSetItems.{item_first, item_kept, item_none}
 use Rattle.root_commits.proofs.PartSetMaps.{found_is, true_or_false}
-use Rattle.root_commits.specs.Commits.{EntersPart, EntersTable, SameStore}
+use Rattle.root_commits.specs.Commits.{EntersPart, EntersTable, IsCause, SameStore, refuses_create, refuses_part}
 use Rattle.root_commits.specs.declared.commits.Returned.{Returned}
 use Rattle.root_commits.specs.Merges.{EntersMerge, Merging, name_of_merge, sources_of}
 use Rattle.root_commits.specs.Publications.{Adding, partition_of_adding}
@@ -46,6 +50,7 @@ use Rattle.root_commits.proofs.MergedNames.{of_run, run_within}
 use Rattle.shared_store.specs.declared.work.Work.{Work}
 use Rattle.shared_store.specs.Engines.{GoesOn, IsOpen, Opened, root_in}
 use Rattle.shared_store.specs.Levels.{KeepsGreatest, LeavesParts, has_greatest, is_greatest}
+use Rattle.shared_store.specs.Tallies.{levels_in}
 use Rattle.shared_store.specs.Works.{Clears, DropsWork, PutsRun, SourcesStand, TakesWork, merging_of, parts_beside}
 use Rattle.shared_store.proofs.Freed.{clears_all}
 use Rattle.shared_store.proofs.Marked.{cleared_after}
@@ -268,3 +273,42 @@ module _ {F : Type 0} where
       by (Err r) p =
           let same = merges_refused files_of (merging_of work p.run sealed loaded) (root_in was) p.mid part T r p.merges in
           levels_alike was.store now.store goes.left.sound (cleared_alike work (record { store = was.store; storage = p.mid.storage }) (root_in now) (cleared_after work (record { store = was.store; storage = p.mid.storage }) p.mid (root_in now) same p.left refl))
+
+-- ---- limits of levels
+
+-- none is a cause where none is shown
+pub cause_levels : (shown cause : Option Refused) → levels_in shown ≡ 0 → IsCause shown cause → levels_in cause ≡ 0
+cause_levels (Some s) cause low is = ap levels_in is ∙ low
+cause_levels None cause low is = outside cause is
+  where
+    outside : (c : Option Refused) → IsOutside c → levels_in c ≡ 0
+    outside None is = refl
+    outside (Some refused.NoMemory) is = refl
+    outside (Some refused.Disk) is = refl
+    outside (Some (refused.Stopped o n)) is = absurd is
+    outside (Some refused.Exists) is = absurd is
+    outside (Some (refused.Limit l)) is = absurd is
+
+if_levels : (b : Bool) (x : Refused) (rest : Option Refused) → levels_in (Some x) ≡ 0 → levels_in rest ≡ 0 → levels_in (cond b (Some x) rest) ≡ 0
+if_levels true x rest first next = first
+if_levels false x rest first next = next
+
+stopped_low : (opened now : ℕ) → levels_in (stopped_by opened now) ≡ 0
+stopped_low opened now = if_levels (nat_lt opened now) (refused.Stopped opened now) None refl refl
+
+-- of a store that is stopped or not
+pub stopped_levels : (opened now : ℕ) (cause : Option Refused) → IsCause (stopped_by opened now) cause → levels_in cause ≡ 0
+stopped_levels opened now cause is = cause_levels (stopped_by opened now) cause (stopped_low opened now) is
+
+module _ {F : Type 0} (store : CoreStore F) (table : List ℕ) (now : ℕ) (cause : Option Refused) where
+  -- of a CREATE
+  pub create_levels : IsCause (refuses_create store table now) cause → levels_in cause ≡ 0
+  create_levels is =
+      cause_levels (refuses_create store table now) cause
+      (if_levels (is_some (table_at store table)) refused.Exists _ refl (if_levels (nat_le 64 (length store.tables.entries)) (refused.Limit limit.Tables) _ refl (stopped_low store.opened now))) is
+
+  -- of a block
+  pub part_levels : (partition : Partition) (drawn : ℕ) → IsCause (refuses_part store table partition drawn now) cause → levels_in cause ≡ 0
+  part_levels partition drawn is =
+      cause_levels (refuses_part store table partition drawn now) cause
+      (if_levels (nat_le 3000 (length (kept_in partition (parts_of store.set table)))) (refused.Limit limit.Parts) _ refl (if_levels (nat_le 4294967295 drawn) (refused.Limit limit.Numbers) _ refl (stopped_low store.opened now))) is

@@ -1,10 +1,12 @@
 -- What a pick tells of the parts that it takes.
-use Rattle.std.proofs.Common.{◌≡◌, add-one, ℕ, ◌+◌, ◌<◌, false, List, [], ◌∷◌, Option, Some, None, IsSome, length, take, drop, refl, sym, ap, ap₂, ◌∙◌, subst, arith, suc}
+use Rattle.std.proofs.Common.{◌≡◌, add-one, ℕ, ◌+◌, ◌<◌, ◌||◌, Bool, false, List, [], ◌∷◌, Option, Some, None, IsSome, length, take, drop, refl, sym, ap, ap₂, ◌∙◌, subst, arith, suc}
 use Rattle.std.specs.List.{All, slice_get}
+use Rattle.std.proofs.lemmas.Bool.Decides.{nat_tests}
 use Rattle.std.proofs.Math.Seq.{drop-cons, take-length}
 use Rattle.std.proofs.lemmas.List.Elements.{All-from_recursion}
 use Rattle.std.proofs.lemmas.Option.{get_or_from_slice_get, slice_get_within}
 use Rattle.mt_base.specs.declared.partition.Partition.{Partition}
+use Rattle.mt_base.specs.Limits.{level_limit}
 use Rattle.merge_select.specs.declared.found.Pick.{Pick}
 use Rattle.root_commits.specs.mutation_queue.declared.scope.Scope.{Scope}
 use Rattle.merge_select.specs.Picks.{Choice, IsPick}
@@ -18,6 +20,7 @@ use Rattle.root_commits.specs.root_store.declared.store.CoreStore.{CoreStore}
 use Rattle.root_commits.specs.root_store.declared.store.Table.{Table}
 use Rattle.root_commits.specs.root_store.Soundness.{IsSoundStore}
 use Rattle.root_commits.specs.root_store.Stores.{table_at}
+use Rattle.shared_store.specs.Levels.{any_greatest, is_greatest}
 
 -- ---- lists
 
@@ -71,6 +74,17 @@ module _ {F : Type 0} where
     picked_idle =
         let free = is.chooses.takes.free in
         subst (All (λ (k : Kept (Part F)). k.busy ≡ false)) (sym pair_is) (All-from_recursion (λ (k : Kept (Part F)). k.busy ≡ false) (first ∷ second ∷ []) (free.first, (free.second, tt)))
+
+    low_level : (k : Kept (Part F)) → k.name.level < level_limit → is_greatest k ≡ false
+    low_level k low = grind (arith, low, nat_tests)
+
+    -- none of them has the greatest level
+    pub picked_low : any_greatest (parts_of_run pick.run mine) ≡ false
+    picked_low =
+        let low = is.chooses.takes.free.level in
+        let one = low_level first (omega (arith, low)) in
+        let two = low_level second (omega (arith, low)) in
+        ap (λ (ks : List (Kept (Part F))). any_greatest ks) pair_is ∙ ap₂ (λ (x y : Bool). x || (y || false)) one two
 
   -- ---- all parts of a partition
 

@@ -30,6 +30,10 @@ pub record Opened (F : Type 0) : Type 0 where
 abbrev pub IsOpen : {F : Type 0} → Opened F → Type 0
 IsOpen root = IsReady root.storage.failed root.storage.disk root.store
 
+-- a root by what is known of it
+abbrev pub opened_of : {F : Type 0} → CoreStore F → Policy → Storage → Option (List ℕ) → Opened F
+opened_of store policy storage started = record { store = store; policy = policy; storage = storage; started = started }
+
 -- its store, and what is known of the outside
 abbrev pub root_in : {F : Type 0} → Opened F → Root F
 root_in root = record { store = root.store; storage = root.storage }
@@ -49,9 +53,12 @@ abbrev pub GoesThroughCrashes : {F : Type 0} → (F → Option Files) → Opened
 GoesThroughCrashes files_of was now =
     (first : keeper.Told) (start : ℕ) → KeepsThroughCrashes files_of was.store was.storage first start → KeepsThroughCrashes files_of now.store now.storage first start
 
--- what merges are chosen from in an open root, and how
+-- what merges are chosen from in a store by a policy, and how; and in an open root
+abbrev pub choice_by : {F : Type 0} → Policy → CoreStore F → Choice (Part F)
+choice_by policy store = record { set = store.set; queue = store.mutations; count = (λ part. part.loaded.manifest.rows); policy = policy }
+
 abbrev pub choice_of : {F : Type 0} → Opened F → Choice (Part F)
-choice_of root = record { set = root.store.set; queue = root.store.mutations; count = (λ part. part.loaded.manifest.rows); policy = root.policy }
+choice_of root = choice_by root.policy root.store
 
 -- the snapshot has what the store keeps of a table, its parts in block order, and the length of its history
 pub record IsSnapOf {F : Type 0} (store : CoreStore F) (table : List ℕ) (snap : Snap (Part F)) : Type 0 where

@@ -1,10 +1,11 @@
 -- What is taken up to be merged, and what becomes of it (docs/architecture.md, "The open root").
-use Rattle.std.specs.Prelude.{◌≡◌, ◌≢◌, ℕ, true, false, List, Option, None, Some, Result, Ok, Err, All, map}
+use Rattle.std.specs.Prelude.{◌≡◌, ◌≢◌, ◌==◌, ℕ, true, false, List, Option, None, Some, Result, Ok, Err, All, if◌then◌else◌, map}
 use Rattle.std.specs.List.{Contains as HasItem}
 use Rattle.std.specs.Option.{MatchOption}
 use Rattle.std.specs.Result.{MatchResult}
 use Rattle.mt_base.specs.declared.memory.NoMemory.{NoMemory}
 use Rattle.mt_base.specs.declared.partition.Partition.{Partition}
+use Rattle.mt_base.specs.declared.policy.Policy.{Policy}
 use Rattle.mt_outside.specs.Files.{Files}
 use Rattle.root_commits.specs.mt_model.History.{History}
 use Rattle.merge_select.specs.declared.found.Pick.{Pick}
@@ -20,7 +21,7 @@ use Rattle.root_commits.specs.part_reader.declared.reading.Part.{Part}
 use Rattle.root_commits.specs.part_set.declared.kept.Kept.{Kept}
 use Rattle.root_commits.specs.part_set.declared.run.Run.{Run}
 use Rattle.root_commits.specs.part_set.Parts.{IsInBlockOrder, kept_in}
-use Rattle.root_commits.specs.part_set.Runs.{IsBusyRun, IsMarked, IsMissing, IsRun, cleared, names_of_parts, parts_of_run}
+use Rattle.root_commits.specs.part_set.Runs.{IsBusyRun, IsMarked, IsMissing, IsRun, cleared, names_of_parts, parts_of_run, with_mark}
 use Rattle.root_commits.specs.part_set.Sets.{parts_of}
 use Rattle.root_commits.specs.part_writer.declared.loaded.Loaded.{Loaded}
 use Rattle.root_commits.specs.stage_dir.Stages.{Filled}
@@ -39,7 +40,7 @@ use Rattle.shared_store.specs.declared.work.Put.TheVariants as put
 use Rattle.shared_store.specs.declared.work.TakeFault.{TakeFault}
 use Rattle.shared_store.specs.declared.work.TakeFault.TheVariants as fault
 use Rattle.shared_store.specs.declared.work.Work.{Work}
-use Rattle.shared_store.specs.Engines.{GoesThroughCrashes, Opened, choice_of, root_in}
+use Rattle.shared_store.specs.Engines.{GoesThroughCrashes, Opened, choice_by, choice_of, root_in}
 
 -- ---- where the parts of a work are
 
@@ -120,6 +121,10 @@ pub record IsPicked {F : Type 0} (c : Choice (Part F)) (scope : Scope) (work : W
   pub partition_is : work.partition ≡ pick.partition
   pub run_is : run ≡ pick.run
 
+-- the work has the pair that the policy takes in a scope, as the store has its parts
+abbrev pub HasPair : {F : Type 0} → Policy → Scope → CoreStore F → Work F → Type 0
+HasPair policy scope store work = (run : Run) × IsPicked (choice_by policy store) scope work run × (work.sources.items ≡ parts_of_run run (parts_beside store work))
+
 -- What is taken up in a scope: the pair that the policy takes. There is none exactly where the policy may take no pair, and where memory ran out;
 -- the root is then as it was.
 abbrev pub TakesPair : {F : Type 0} → Scope → Opened F → Opened F → Result (Option (Work F)) NoMemory → Type 0
@@ -128,15 +133,19 @@ TakesPair scope was now (Ok (Some work)) = (run : Run) × IsPicked (choice_of wa
 TakesPair scope was now (Err why) = now ≡ was
 
 -- which parts are taken where all of a partition are to be one, or which of them keeps it from that (docs/engines.md, "Which parts are merged")
-abbrev pub AnswersWhole : {F : Type 0} → Opened F → List ℕ → Partition → Result (Option Run) Busy → Type 0
-AnswersWhole was table partition answer = PicksAll (mutations_of was.store.mutations table) (kept_in partition (parts_of was.store.set table)) answer
+abbrev pub AnswersWhole : {F : Type 0} → CoreStore F → List ℕ → Partition → Result (Option Run) Busy → Type 0
+AnswersWhole store table partition answer = PicksAll (mutations_of store.mutations table) (kept_in partition (parts_of store.set table)) answer
+
+-- the work has all parts of its partition, as the store has them
+abbrev pub HasAll : {F : Type 0} → CoreStore F → Work F → Type 0
+HasAll store work = (run : Run) × AnswersWhole store work.table work.partition (Ok (Some run)) × (work.sources.items ≡ parts_of_run run (parts_beside store work))
 
 -- What is taken up of a partition: all its parts. Else the root is as it was.
 abbrev pub TakesWhole : {F : Type 0} → List ℕ → Partition → Opened F → Opened F → Result (Option (Work F)) TakeFault → Type 0
-TakesWhole table partition was now (Ok None) = AnswersWhole was table partition (Ok None) × (now ≡ was)
+TakesWhole table partition was now (Ok None) = AnswersWhole was.store table partition (Ok None) × (now ≡ was)
 TakesWhole table partition was now (Ok (Some work)) =
-    (run : Run) × AnswersWhole was table partition (Ok (Some run)) × (work.table ≡ table) × (work.partition ≡ partition) × TakesWork was now work run
-TakesWhole table partition was now (Err (fault.Busy name)) = AnswersWhole was table partition (Err (record { name = name })) × (now ≡ was)
+    (run : Run) × AnswersWhole was.store table partition (Ok (Some run)) × (work.table ≡ table) × (work.partition ≡ partition) × TakesWork was now work run
+TakesWhole table partition was now (Err (fault.Busy name)) = AnswersWhole was.store table partition (Err (record { name = name })) × (now ≡ was)
 TakesWhole table partition was now (Err fault.NoMemory) = now ≡ was
 
 -- ---- what becomes of it
@@ -177,6 +186,19 @@ PutsWork {S = S} files_of work sealed loaded was now part (Err returned) = PutsR
 -- what becomes of a work that is let go: its sources have no marks any more
 abbrev pub DropsWork : {F : Type 0} → Work F → Opened F → Opened F → Type 0
 DropsWork work was now = Clears work (root_in was) (root_in now)
+
+-- the parts without their marks, where so many works are out and these are none
+abbrev pub parts_freed : {P : Type 0} → ℕ → List (Kept P) → List (Kept P)
+parts_freed out parts = if out == 0 then map (with_mark false) parts else parts
+
+-- No part bears a mark any more, where so many works are out and these are none. Else the parts are as they were, and all else is.
+pub record Frees {F : Type 0} (out : ℕ) (was now : Opened F) : Type 0 where
+  pub parts : (table : List ℕ) → parts_of now.store.set table ≡ parts_freed out (parts_of was.store.set table)
+  pub tables : now.store.tables.entries ≡ was.store.tables.entries
+  pub mutations_are : now.store.mutations ≡ was.store.mutations
+  pub length_is : now.store.length ≡ was.store.length
+  pub opened_is : now.store.opened ≡ was.store.opened
+  pub storage_is : now.storage ≡ was.storage
 
 -- Marks alone were changed: the root stands for what it stood for, a crash leaves what it left, and nothing else that is known of it changed.
 pub record StandsOn {F : Type 0} (files_of : F → Option Files) (was now : Opened F) : Type 0 where

@@ -9,7 +9,7 @@ ghost use Rattle.root_commits.specs.root_store.Soundness.{IsReady};
 ghost use Rattle.root_commits.specs.root_store.Stores.{table_at};
 ghost use Rattle.root_commits.specs.root_store.declared.store.Table.{Table as Made};
 ghost use Rattle.shared_store.specs.Engines.{GoesOn, IsOpen, Opened, Snaps, root_in, schema_kept};
-ghost use Rattle.shared_store.specs.Works.{DropsWork, PutsWork, TakesPair, TakesWhole};
+ghost use Rattle.shared_store.specs.Works.{DropsWork, Frees, PutsWork, TakesPair, TakesWhole};
 
 use crate::work::{Put, TakeFault, Work, merge_run, take_up};
 use merge_select::{Busy, Pick, Scope, pick, pick_all};
@@ -84,6 +84,7 @@ impl<F: Dir, R: Arm<Dir = F>, D: Disk<Arm = R>, A: Annals> Engine<F, R, D, A> {
         ensures storage { self.storage
             ≡ storage (D.told result.0) (D.clock result.0) (D.failed result.0) (A.told result.1) }
         ensures started { D.started result.0 ≡ self.started }
+        ensures open { IsOpen self }
     {
         let Engine {
             store: _,
@@ -113,6 +114,13 @@ impl<F: Dir, R: Arm<Dir = F>, D: Disk<Arm = R>, A: Annals> Engine<F, R, D, A> {
             Some(found) => Ok(Some(found.schema.twin(alloc)?)),
             None => Ok(None),
         }
+    }
+
+    /// How many of the disk's calls have failed.
+    pub fn faults(&self) -> u64
+        ensures { result ≡ self.now.storage.failed }
+    {
+        self.disk.faults()
     }
 
     /// Whether there is a table of this name. Takes no memory.
@@ -280,6 +288,16 @@ impl<F: Dir, R: Arm<Dir = F>, D: Disk<Arm = R>, A: Annals> Engine<F, R, D, A> {
         } = work;
         let set = &mut self.store.set;
         set.clear_marks(&table, sources.as_slice());
+    }
+
+    /// Takes away each mark that is left, where so many works are out and these are none. Takes no memory.
+    pub fn clear(&mut self, out: u64)
+        ensures frees { Frees out self.old self.new }
+        ensures goes_on { GoesOn self.old self.new }
+    {
+        if out == 0 {
+            self.store.set.clear_all_marks();
+        }
     }
 
     /// Puts the part that was sealed of a work's merge in place of its sources, where these stand there under their
