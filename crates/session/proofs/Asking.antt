@@ -52,11 +52,10 @@ module _ (columns : List Column) (s : SelectText) (q : Query) where
   pub query_places : query_of columns s ≡ Ok q → selected_places columns s.columns ≡ Ok q.places
   query_places is = (asked is).places
 
-  Below : Test → Type 0
+  abbrev Below : Test → Type 0
   Below t = t.column < length columns
 
   test_below : (t : TestText) (o : Option ℕ) → column_place columns t.column ≡ o → is_some o ≡ true → Below (test_in columns t)
-  unfolding Below
   test_below t None e some = cc
   test_below t (Some place) e some = subst (λ n. n < length columns) (sym (ap (λ (o : Option ℕ). unwrap_or o 0) e)) (place_below columns t.column place e)
 
@@ -71,7 +70,6 @@ module _ (columns : List Column) (s : SelectText) (q : Query) where
 
   -- each test of the condition is of a column of the table
   pub tests_below : query_of columns s ≡ Ok q → All (λ (t : Test). t.column < length columns) (tests_of q.condition)
-  unfolding Below
   tests_below is =
       let a = asked is in
       let names = map (λ (t : TestText). t.column) (tests_of s.condition) in

@@ -1,5 +1,5 @@
 -- One more table.
-use Rattle.std.proofs.Common.{◌≡◌, ◌&&◌, ℕ, ◌+◌, ◌<◌, ◌≤◌, ◌^◌, Bool, true, false, cond, List, [], ◌∷◌, ◌++◌, length, refl, sym, ap, ap₂, ◌∙◌, arith, Option, Some, None, Ok, is_some, nat_lt, codes, Result}
+use Rattle.std.proofs.Common.{◌≡◌, ◌&&◌, ℕ, ◌<◌, ◌≤◌, ◌^◌, Bool, true, false, cond, List, [], ◌∷◌, ◌++◌, length, refl, ap, ap₂, ◌∙◌, arith, Option, Some, None, Ok, is_some, nat_lt, codes, Result, subst}
 use Rattle.std.specs.Result.{result_ok}
 use Rattle.std.proofs.lemmas.Bool.Decides.{nat_tests}
 use Rattle.mt_values.specs.declared.command.Command.{Command}
@@ -9,28 +9,20 @@ use Rattle.mt_values.specs.declared.statement.Cause.{Cause}
 use Rattle.mt_values.specs.declared.statement.CreateText.{CreateText}
 use Rattle.mt_values.specs.declared.statement.Statement.{Statement}
 use Rattle.mt_values.specs.declared.statement.Statement.TheVariants as statement
-use Rattle.mt_values.specs.Annals.{Told}
 use Rattle.mt_values.specs.Script.{statements_of, statement_and}
 use Rattle.shared_store.proofs.RootStoreEntryReads.{reads_as}
 use Rattle.mt_values.proofs.ScriptBounds.{statements_of_step}
-use Rattle.mt_outside.specs.Files.{Files}
 use Rattle.replies.specs.mt_model.declared.refusal.Bound.TheVariants as bound
 use Rattle.replies.specs.mt_model.declared.refusal.Refusal.TheVariants as refusal
 use Rattle.replies.specs.mt_model.Commands.{commands_of, create_commands}
 use Rattle.replies.specs.mt_model.History.{History, schema_of, creates}
-use Rattle.replies.specs.mt_model.Reply.{schema_of_text, create_turn, ok_line}
+use Rattle.replies.specs.mt_model.Reply.{schema_of_text, create_turn}
 use Rattle.replies.specs.mt_model.Written.{IsCreateText}
 use Rattle.replies.proofs.MtModelTables.{itself_same}
-use Rattle.shared_store.specs.durable_commit.Commits.{entry_of}
-use Rattle.shared_store.specs.durable_commit.Publications.{Notes}
 use Rattle.shared_store.specs.root_store.Entries.{EntryHolds, schema_of_items, schema_of_entry}
-use Rattle.shared_store.specs.root_store.Soundness.{RootStands}
-use Rattle.shared_store.specs.root_store.Stores.{CoreStands}
-use Rattle.session.specs.Answers.{Answered, Knows, Turned}
-use Rattle.replies.specs.Foreseen.{history}
+use Rattle.shared_store.specs.root_commits.Commits.{IsSealedEntry}
+use Rattle.mt_outside.specs.Files.{Files}
 use Rattle.session.specs.Staged.{entry_files}
-use Rattle.session.proofs.Accepting.{accepted_one, accepts_command}
-use Rattle.replies.proofs.Ends.{length_history}
 
 -- what refuses a CREATE at its turn
 module _ (table : List ℕ) (h : History) where
@@ -72,14 +64,11 @@ module _ (text : CreateText) (schema : Schema) (says : schema_of_text text ≡ O
   pub create_gives : (h : History) → commands_of h (statement.Create text) ≡ Ok (created ∷ [])
   create_gives h = ap (create_commands text.table) says
 
-  -- a CREATE that is accepted
-  pub created_accepts : {F : Type 0} (files_of : F → Option Files) (kept : Told) (t : Turned F) (mark : ℕ) (reply : List ℕ) → Knows files_of kept t.was → create_turn text.table (history kept) ≡ None
-      → Notes mark (Some (entry_of 0 created)) t.was.storage.annals t.now.storage.annals → CoreStands files_of (history kept ++ entry_of 0 created ∷ []) t.now.store → reply ≡ ok_line (t.was.store.length + 1)
-      → (RootStands t.was.storage.disk (history kept) → RootStands t.now.storage.disk (history kept ++ entry_of 0 created ∷ []))
-      → Answered files_of kept (Ok (statement.Create text)) t reply
-  created_accepts files_of kept t mark reply knows turn notes stands ok settled =
-      let length_kept : t.was.store.length ≡ length kept.list = knows.stands.length_is ∙ length_history kept in
-      accepts_command mark created kept files_of (Ok (statement.Create text)) t reply knows.told_is notes stands
-      (λ n now m front added at_m.
-      accepted_one n now (history kept) (statement.Create text) created m reply front (create_gives (history kept)) turn added (ok ∙ ap (λ k. ok_line (k + 1)) (length_kept ∙ sym at_m)))
-      settled
+-- what was sealed of its text is its entry
+pub sealed_entry : (text : CreateText) (schema : Schema) → schema_of_text text ≡ Ok schema → IsCreateText text → (read : List ℕ) → read ≡ text.text → length read < 2 ^ 32 → (sealed : Option Files) → sealed ≡ Some (entry_files read)
+    → IsSealedEntry (record { table = text.table; schema = schema }) sealed
+sealed_entry text schema says is read same few sealed files = record {
+  files = entry_files text.text;
+  sealed_are = files ∙ ap (λ (t : List ℕ). Some (entry_files t)) same;
+  holds = entry_holds text schema is says (subst (λ (t : List ℕ). length t < 2 ^ 32) same few);
+}

@@ -1,5 +1,5 @@
 -- From the plan of a table's parts to the answer of an EXPLAIN.
-use Rattle.std.proofs.Common.{◌≡◌, ◌⊎◌, ℕ, ◌+◌, Bool, true, false, cond, List, [], ◌∷◌, length, map, refl, sym, ap, ap₂, ◌∙◌, inl, inr, Option, Some, Ok}
+use Rattle.std.proofs.Common.{◌≡◌, ℕ, ◌+◌, Bool, true, false, cond, List, [], ◌∷◌, length, map, refl, sym, ap, ap₂, ◌∙◌, Option, Some, Ok}
 use Rattle.std.specs.List.{count_by, list_any, sum_by}
 use Rattle.std.proofs.lemmas.List.{length-map}
 use Rattle.std.proofs.lemmas.List.Sums.{sum_by-cons}
@@ -25,11 +25,6 @@ use Rattle.shared_store.specs.part_writer.PartFiles.{loaded_of}
 use Rattle.shared_store.specs.root_store.Stores.{core_part, core_parts}
 use Rattle.final_fold.specs.select_plan.Plans.{counts_over, read_of}
 use Rattle.final_fold.specs.row_merge.MergedParts.{PartsHold}
-use Rattle.shared_store.specs.part_set.declared.kept.Snap.{Snap}
-use Rattle.shared_store.specs.root_store.declared.store.CoreStore.{CoreStore}
-use Rattle.shared_store.specs.Engines.{IsSnapOf}
-use Rattle.session.specs.Merges.{IsRefusal}
-use Rattle.session.specs.Selects.{CountsFrom, CountsPlan}
 use Rattle.session.proofs.Planned.{marked_is, planned_is}
 
 -- a sum over what becomes of each item is a sum over the items
@@ -93,8 +88,3 @@ explains h s schema q ps n place reply there asked stand none counted is =
       stand = stand;
       reply_is = is ∙ ap (λ (m : Counts). explain_line m place) (counted ∙ ap (λ (ms : List Mutation). counts_of schema ms s.is_final q.condition ps) (sym none));
     }
-
--- the numbers of a pinned table are those of one that the store keeps
-pub counts_from : {F : Type 0} (store : CoreStore F) (text : SelectText) (snap : Snap (Part F)) (reply : List ℕ) → IsSnapOf store text.table snap → IsRefusal reply ⊎ CountsPlan snap text reply → CountsFrom store text reply
-counts_from store text snap reply pinned (inl why) = inl why
-counts_from store text snap reply pinned (inr counts) = inr (snap, pinned, counts)

@@ -1,46 +1,36 @@
-pub mod Accepting
-pub mod Adding
+pub mod Accounting
+pub mod Answering
 pub mod Asking
-pub mod Beside
-pub mod CreateTurns
+pub mod Commits
+pub mod Counting
 pub mod Creating
 pub mod Damaged
 pub mod Explaining
 pub mod FinalReads
 pub mod Gaining
-pub mod GivenUp
 pub mod Inserting
-pub mod Kept
-pub mod Lapses
-pub mod Leaving
 pub mod Matching
-pub mod MergeSteps
+pub mod Merges
+pub mod OnceStopped
 pub mod Optimizing
-pub mod PartRows
 pub mod Partitions
 pub mod Picking
-pub mod Placing
 pub mod Planned
-pub mod Progressing
-pub mod PutSays
-pub mod Putting
 pub mod Running
+pub mod Runs
 pub mod SealedParts
+pub mod Seats
 pub mod Seeing
-pub mod SelectAnswers
 pub mod SelectStanding
 pub mod Selecting
+pub mod SnapReplies
 pub mod Stacking
 pub mod Standing
 pub mod Stopping
-pub mod Taken
-pub mod Taking
-pub mod Turning
+pub mod TablesKept
+pub mod Tries
+pub mod TurnReplies
 pub mod Undamaged
-pub mod Unread
-pub mod Whole
-pub mod WorkEnds
-pub mod WorkLaws
 pub use Rattle.replies.proofs.MtModelCauses
 pub use Rattle.replies.proofs.MtModelGained
 pub use Rattle.replies.proofs.MtModelGrowing
@@ -50,6 +40,9 @@ pub use Rattle.replies.proofs.MtModelUnrefused
 pub use Rattle.replies.proofs.Counting as RepliesCounting
 pub use Rattle.replies.proofs.Ends as RepliesEnds
 pub use Rattle.replies.proofs.RunStreamsKnown
+pub use Rattle.shared_store.proofs.Finishing as SharedStoreFinishing
 pub use Rattle.shared_store.proofs.Levels as SharedStoreLevels
+pub use Rattle.shared_store.proofs.Opening as SharedStoreOpening
+pub use Rattle.shared_store.proofs.Standing as SharedStoreStanding
 pub use Rattle.shared_store.proofs.RootStoreTableIndexes
 pub use Rattle.shared_store.proofs.RootStoreTableMarks

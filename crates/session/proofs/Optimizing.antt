@@ -1,33 +1,37 @@
--- From the merges of an OPTIMIZE to its answer.
-use Rattle.std.proofs.Common.{◌≡◌, ℕ, Bool, true, false, List, [], length, is_some, refl, sym, ap, ◌∙◌, subst, inl, inr, Option, Some, None, IsSome, Result, Ok, Err, IfOk, IsErr}
+-- From the merges of a session's OPTIMIZE to its answer.
+use Rattle.std.proofs.Common.{◌≡◌, ◌⊎◌, ◌==◌, ℕ, ◌++◌, Bool, true, false, List, [], length, is_some, take, Option, Some, None, Result, Ok, Err, IfOk, IfSome, inl, inr, refl, sym, ap, ◌∙◌, subst, arith, append_assoc}
+use Rattle.std.specs.List.{All}
+use Rattle.std.specs.Option.{MatchOption}
 use Rattle.std.proofs.lemmas.Bool.{false≢true}
+use Rattle.std.proofs.lemmas.List.{take_all}
 use Rattle.mt_base.specs.declared.memory.NoMemory.{NoMemory}
+use Rattle.mt_base.specs.declared.partition.Partition.{Partition}
 use Rattle.mt_values.specs.declared.schema.Schema.{Schema}
 use Rattle.mt_values.specs.declared.statement.OptimizeText.{OptimizeText}
 use Rattle.mt_values.specs.declared.statement.Statement.TheVariants as statement
-use Rattle.mt_values.specs.Annals.{Told}
 use Rattle.mt_outside.specs.Files.{Files}
 use Rattle.replies.specs.mt_model.declared.refusal.Refusal.TheVariants as refusal
 use Rattle.replies.specs.mt_model.Commands.{commands_of, none_on}
 use Rattle.replies.specs.mt_model.History.{History, schema_of}
-use Rattle.replies.specs.mt_model.Outside.{Outside}
+use Rattle.replies.specs.mt_model.Outside.{LevelFailed, Outside, PartBusy, ReadOrStageFailed, TurnFailed}
+use Rattle.replies.specs.mt_model.Refusals.{code_of, refusal_line}
 use Rattle.replies.specs.mt_model.Reply.{ok_line}
-use Rattle.replies.specs.mt_model.Refusals.{is_damage}
-use Rattle.replies.specs.mt_model.Session.{Takes}
-use Rattle.replies.specs.Foreseen.{Foresees, history}
-use Rattle.replies.proofs.Causing.{says_answer}
-use Rattle.replies.proofs.Ends.{length_history}
-use Rattle.replies.proofs.Refusing.{optimize_done, optimize_failed}
-use Rattle.shared_store.specs.root_store.declared.store.Table.{Table}
-use Rattle.shared_store.specs.root_store.Stores.{table_at}
-use Rattle.shared_store.specs.Engines.{Opened}
-use Rattle.shared_store.specs.Levels.{has_greatest}
-use Rattle.session.specs.Answers.{Answered, Answers, EndsUnanswered, Knows, Turned, met}
-use Rattle.session.specs.Lapses.{Accounts, Lapse, counts, lapse}
-use Rattle.session.specs.Merges.{AddsNoCommand, AllAreFinal, Finishes, IsRefusal, KeepsRows, Merges, MergesNamed, RefusesMerge}
-use Rattle.session.proofs.Accepting.{answered_nothing, unanswered_nothing}
-use Rattle.session.proofs.Leaving.{never_by}
-use Rattle.session.proofs.Standing.{table_schema}
+use Rattle.replies.specs.mt_model.Session.{AddsNothing, TakesOptimize}
+use Rattle.shared_store.specs.history_seat.declared.view.View.{View}
+use Rattle.shared_store.specs.history_seat.Turns.{Looked}
+use Rattle.shared_store.specs.history_seat.Views.{Begins}
+use Rattle.shared_store.specs.Sharing.{AtOpening, schema_there}
+use Rattle.shared_store.specs.Stood.{Premise, is_listed, is_told}
+use Rattle.shared_store.specs.Tallies.{Tally}
+use Rattle.shared_store.specs.part_name.PartNames.{IsPartition, partition_text}
+use Rattle.shared_store.specs.mutation_queue.declared.scope.Scope.{Scope}
+use Rattle.shared_store.specs.mutation_queue.Scopes.{InScope}
+use Rattle.shared_store.specs.Works.{HasPair}
+use Rattle.session.specs.Answers.{AccountsAt, FoundNoPair, HasPairOf, IsFinalAt, IsNamed, IsThere, ListsAsAsked, MergesAsAsked, MergesAt, StaysSession, TellsOfHanded, WasMerged, WereIn, having, met_with, stops_of}
+use Rattle.shared_store.proofs.MtModelHistories.{schema_kept}
+use Rattle.session.proofs.Counting.{counts_of_none, other_code}
+use Rattle.session.proofs.Merges.{merged_of, merges_as, no_pair_of, tells_of}
+use Rattle.session.proofs.Seats.{looked_own}
 
 -- an OPTIMIZE has no command where its table is there
 module _ (text : OptimizeText) (h : History) where
@@ -37,109 +41,169 @@ module _ (text : OptimizeText) (h : History) where
   pub no_table_to_merge : schema_of text.table h ≡ None → commands_of h (statement.Optimize text) ≡ Err (refusal.NoTable text.table)
   no_table_to_merge none = ap (none_on text.table) none
 
-module _ {F : Type 0} (files_of : F → Option Files) (kept : Told) (text : OptimizeText) (was now : Opened F) (arm_was arm : ℕ) (knows : Knows files_of kept was)
-    (there : commands_of (history kept) (statement.Optimize text) ≡ Ok []) (adds : AddsNoCommand was now) (keeps : KeepsRows files_of was now) where
-  abbrev turned : Turned F
-  turned = record { was = was; now = now; arm = arm }
+-- a schema that is there
+some_schema : (x : Option Schema) → is_some x ≡ true → (schema : Schema) × (x ≡ Some schema)
+some_schema (Some schema) is = (schema, refl)
+some_schema None is = cc
 
-  -- with a reply that it may have at the end of the history
-  answered : (reply : List ℕ) → ((n : Outside) → Foresees was.store.opened now.storage.failed arm (has_greatest now.store) n → Takes n (history kept) 0 (Ok (statement.Optimize text)) (length kept.list) (length kept.list) reply)
-      → Answered files_of kept (Ok (statement.Optimize text)) turned reply
-  answered reply takes =
-      answered_nothing files_of kept kept (Ok (statement.Optimize text)) turned reply (adds.annals ∙ knows.told_is) refl (inl (refl, refl)) (keeps.stands (history kept) knows.stands) takes
-      (λ calm before. keeps.settled (history kept) knows.stands before)
+no_schema : (x : Option Schema) → is_some x ≡ false → x ≡ None
+no_schema None is = refl
+no_schema (Some schema) is = cc
 
-  -- all its merges were done
-  pub merged_all : (reply : List ℕ) → reply ≡ ok_line now.store.length → Answered files_of kept (Ok (statement.Optimize text)) turned reply
-  merged_all reply line = answered reply (λ n f. optimize_done n kept reply text there (line ∙ ap ok_line (adds.length_is ∙ (knows.stands.length_is ∙ length_history kept))))
+module _ (given : Premise → Type 0) (before : History) (o : AtOpening) (text : OptimizeText) (list : History) where
+  -- an OPTIMIZE has no command where its table is there, and is refused where it is not
+  pub gives_none : IsThere given before o.tables list text.table true → given is_told → given is_listed → commands_of (before ++ list) (statement.Optimize text) ≡ Ok []
+  gives_none there told known =
+      let s = some_schema (schema_there o.tables list text.table) there.1 in
+      no_command text (before ++ list) s.0 (there.0 told known ∙ s.1)
 
-  -- one of them was refused
-  pub merge_refused : (known : Type 0) → known → (reply : List ℕ) → RefusesMerge files_of known (lapse was now arm_was arm) text.whole reply → Answered files_of kept (Ok (statement.Optimize text)) turned reply
-  merge_refused known is reply r = answered reply (λ n f. optimize_failed n kept reply text there (r.takes is (history kept) knows.stands n f))
+  pub gives_refusal : IsThere given before o.tables list text.table false → given is_told → given is_listed → commands_of (before ++ list) (statement.Optimize text) ≡ Err (refusal.NoTable text.table)
+  gives_refusal there told known = no_table_to_merge text (before ++ list) (there.0 told known ∙ no_schema (schema_there o.tables list text.table) there.1)
 
-  -- it has no reply
-  pub merges_unanswered : EndsUnanswered files_of kept (Ok (statement.Optimize text)) turned
-  merges_unanswered =
-      unanswered_nothing files_of kept kept (Ok (statement.Optimize text)) turned (adds.annals ∙ knows.told_is) refl (inl (refl, refl)) (keeps.stands (history kept) knows.stands)
-      (λ before. keeps.settled (history kept) knows.stands before)
+-- it stays so
+pub there_then_at : (given : Premise → Type 0) (before : History) (o : AtOpening) (text : OptimizeText) (first list : History) → Begins first list → IsThere given before o.tables first text.table true → given is_told → given is_listed
+    → commands_of (before ++ list) (statement.Optimize text) ≡ Ok []
+there_then_at given before o text first list b there told known =
+    let s = some_schema (schema_there o.tables first text.table) there.1 in
+    let whole = subst (λ (h : History). schema_of text.table h ≡ Some s.0) (append_assoc before first b.0 ∙ ap (λ (l : History). before ++ l) b.1) (schema_kept text.table (before ++ first) b.0 s.0 (there.0 told known ∙ s.1)) in
+    no_command text (before ++ list) s.0 whole
 
--- ---- what an OPTIMIZE comes to
+-- ---- the replies
 
--- how merges ended, from a moment at which all was as before
-pub merges_found : {F : Type 0} (files_of : F → Option Files) (known : Type 0) (was here now : Opened F) (arm_was arm : ℕ) (full : Bool) (found is : Option (List ℕ)) → found ≡ is → here ≡ was → Merges files_of known (lapse here now arm_was arm) full (Ok found)
-    → Merges files_of known (lapse was now arm_was arm) full (Ok is)
-merges_found files_of known was here now arm_was arm full found is same stays ms =
-    subst (λ (o : Option (List ℕ)). Merges files_of known (lapse was now arm_was arm) full (Ok o)) same (subst (λ (o : Opened _). Merges files_of known (lapse o now arm_was arm) full (Ok found)) stays ms)
+module _ (n : Outside) (h : History) (session from to : ℕ) (end : length h ≡ to) (nothing : AddsNothing h session from to) (text : OptimizeText) (reply : List ℕ) where
+  front : take to h ≡ h
+  front = take_all to h (omega (arith, end))
 
--- which parts were merged
-pub named_found : {F : Type 0} (S : Type 0) (files_of : F → Option Files) (known : Type 0) (text : OptimizeText) (was here now : Opened F) (arm_was arm : ℕ) (found is : Option (List ℕ)) → found ≡ is → here ≡ was → MergesNamed S files_of known text (lapse here now arm_was arm) (Ok found)
-    → MergesNamed S files_of known text (lapse was now arm_was arm) (Ok is)
-named_found S files_of known text was here now arm_was arm found is same stays named =
-    subst (λ (o : Option (List ℕ)). MergesNamed S files_of known text (lapse was now arm_was arm) (Ok o)) same (subst (λ (o : Opened _). MergesNamed S files_of known text (lapse o now arm_was arm) (Ok found)) stays named)
+  pub optimize_refused_at : commands_of h (statement.Optimize text) ≡ Err (refusal.NoTable text.table) → reply ≡ refusal_line (refusal.NoTable text.table) → TakesOptimize n h session text from to reply
+  optimize_refused_at is line = inr (refusal.NoTable text.table, ap (λ (x : History). commands_of x (statement.Optimize text)) front ∙ is, record { line = line; nothing = nothing })
 
--- what its FINAL did
-module _ {F : Type 0} (S : Type 0) (files_of : F → Option Files) (known : Type 0) (text : OptimizeText) (m : Lapse F) where
-  -- all merges were done, whether it has a reply or none
-  pub all_finished : (result : Result (List ℕ) NoMemory) → AllAreFinal text m.was.store m.now.store → Finishes S files_of known text m result
-  all_finished (Ok reply) done = inl done
-  all_finished (Err e) done = inl done
+  pub optimize_done_at : commands_of h (statement.Optimize text) ≡ Ok [] → reply ≡ ok_line to → TakesOptimize n h session text from to reply
+  optimize_done_at is line = inl (ap (λ (x : History). commands_of x (statement.Optimize text)) front ∙ is, nothing, inl line)
 
-  -- there is no such table
-  pub none_finished : (result : Result (List ℕ) NoMemory) → IfOk result IsRefusal → table_at m.was.store text.table ≡ None → m.now ≡ m.was → Finishes S files_of known text m result
-  none_finished (Ok reply) why none same = inr (why, inr (none, same))
-  none_finished (Err e) why none same = inr (inr same)
+  pub optimize_failed_at : commands_of h (statement.Optimize text) ≡ Ok [] → ReadOrStageFailed n reply ⊎ ((text.whole ≡ true) × (LevelFailed n reply ⊎ PartBusy n reply)) ⊎ TurnFailed n 0 reply → TakesOptimize n h session text from to reply
+  optimize_failed_at is failed = inl (ap (λ (x : History). commands_of x (statement.Optimize text)) front ∙ is, nothing, inr failed)
 
-  -- memory ran out before any merge
-  pub never_finished : (result : Result (List ℕ) NoMemory) → IsErr result → m.now ≡ m.was → Finishes S files_of known text m result
-  never_finished (Ok reply) is same = absurd (false≢true is)
-  never_finished (Err e) is same = inr (inr same)
+-- ---- what stays, and what accounts for the reply
 
--- there is such a table
-pub some_there : {X Y : Type 0} (found : Option X) (x : X) (o : Option Y) → found ≡ Some x → is_some found ≡ is_some o → IsSome o
-some_there found x (Some y) is same = refl
-some_there found x None is same = let bad : true ≡ false = ap is_some (sym is) ∙ same in cc
+module _ (given : Premise → Type 0) (o : AtOpening) (whole : ℕ) (old new : Tally) (arm later : ℕ) (full : Bool) (Damage : List ℕ → Type 0) (Shows : Type 0) (v w : View) where
+  pub merged_stays : (found : Result (Option (List ℕ)) NoMemory) → MergesAt given o whole old new arm later full Damage Shows found → new.out ≡ old.out → Looked v w.list w → StaysSession o whole (having v old arm) (having w new later)
+  merged_stays found m out l = record { session = l.session; number = l.number; made = l.made; begins = l.begins; own_is = looked_own [] w.list v w l; parts = m.parts; out = out; since = m.since }
 
--- there is none
-pub none_there : {X Y : Type 0} (found : Option X) (o : Option Y) → found ≡ None → is_some found ≡ is_some o → o ≡ None
-none_there found None is same = refl
-none_there found (Some y) is same = let bad : false ≡ true = ap is_some (sym is) ∙ same in cc
-
-module _ {F : Type 0} (files_of : F → Option Files) (text : OptimizeText) (known : Type 0) (was now : Opened F) (arm_was arm : ℕ) (there : IsSome (table_at was.store text.table)) where
-  abbrev m : Lapse F
-  m = lapse was now arm_was arm
-
-  abbrev pub Replies : Result (List ℕ) NoMemory → Type 0
-  Replies result = (kept : Told) → known → Knows files_of kept was → Answers files_of kept (Ok (statement.Optimize text)) (met was now arm) result
-
-  no_commands : (kept : Told) → Knows files_of kept was → commands_of (history kept) (statement.Optimize text) ≡ Ok []
-  no_commands kept knows = by (table_at was.store text.table) refl there
-    where
-      by : (o : Option Table) → table_at was.store text.table ≡ o → IsSome o → commands_of (history kept) (statement.Optimize text) ≡ Ok []
-      by (Some t) at some = no_command text (history kept) t.schema (table_schema files_of (history kept) was.store knows.stands text.table t at)
-      by None none some = absurd (false≢true some)
-
-  -- all merges were done
-  module _ (ms : Merges files_of known m text.whole (Ok None)) where
-    pub all_answers : (result : Result (List ℕ) NoMemory) → IfOk result (λ line. line ≡ ok_line now.store.length) → Replies result
-    all_answers (Ok reply) line = λ kept is knows. merged_all files_of kept text was now arm_was arm knows (no_commands kept knows) ms.adds (ms.keeps is) reply line
-    all_answers (Err e) line = λ kept is knows. merges_unanswered files_of kept text was now arm_was arm knows (no_commands kept knows) ms.adds (ms.keeps is)
-
-    pub all_accounts : (Damage : List ℕ → Type 0) (result : Result (List ℕ) NoMemory) → IfOk result (λ line. line ≡ ok_line now.store.length) → Accounts (counts m) Damage result
-    all_accounts Damage (Ok reply) line = record { causes = says_answer was.store.opened was.storage.failed now.storage.failed arm_was arm reply _ line refl; damaged = λ bad. absurd (never_by reply (ap is_damage line) bad); memory = tt; later = ms.later }
-    all_accounts Damage (Err e) line = record { causes = tt; damaged = tt; memory = ms.ends; later = ms.later }
+  -- all were done
+  pub merged_accounts : (line : Result (List ℕ) NoMemory) (place : ℕ) → IfOk line (λ reply. reply ≡ ok_line place) → MergesAt given o whole old new arm later full Damage Shows (Ok None) → AccountsAt o whole (having v old arm) (having w new later) Damage line
+  merged_accounts (Ok reply) place ok m =
+      let code : code_of reply ≡ 0 = ap code_of ok in
+      let stops = m.stops in
+      record {
+        failed = λ e. absurd (other_code reply 0 15 code refl e);
+        stops = omega (arith, stops, ap stops_of code);
+        counts = counts_of_none (met_with o whole old arm) (met_with o whole new later) m.counts reply 0 code refl refl;
+        damaged = λ bad. absurd (false≢true (sym (ap (λ (k : ℕ). k == 19) code) ∙ bad));
+        memory = tt;
+        later = m.since.arm;
+      }
+  merged_accounts (Err e) place ok m =
+      let disk = m.counts.calm (λ is. cc) in
+      record { failed = tt; stops = tt; counts = tt; damaged = tt; memory = (m.done.0, omega (arith, disk)); later = m.since.arm }
 
   -- one was refused
-  module _ (reply : List ℕ) (ms : Merges files_of known m text.whole (Ok (Some reply))) where
-    pub refused_answers : Replies (Ok reply)
-    refused_answers kept is knows = merge_refused files_of kept text was now arm_was arm knows (no_commands kept knows) ms.adds (ms.keeps is) known is reply ms.ends
-
-    pub refused_accounts : (Damage : List ℕ → Type 0) → (is_damage reply ≡ true → Damage reply) → Accounts (counts m) Damage (Ok reply)
-    refused_accounts Damage damage = record { causes = ms.ends.causes; damaged = damage; memory = tt; later = ms.later }
+  pub stopped_accounts : (reply : List ℕ) → MergesAt given o whole old new arm later full Damage Shows (Ok (Some reply)) → AccountsAt o whole (having v old arm) (having w new later) Damage (Ok reply)
+  stopped_accounts reply m = record { failed = m.failed; stops = m.stops; counts = m.counts; damaged = m.damaged; memory = tt; later = m.since.arm }
 
   -- memory ran out
-  module _ (e : NoMemory) (ms : Merges files_of known m text.whole (Err e)) where
-    pub ended_answers : Replies (Err e)
-    ended_answers kept is knows = merges_unanswered files_of kept text was now arm_was arm knows (no_commands kept knows) ms.adds (ms.keeps is)
+  pub ended_accounts_at : (e : NoMemory) → MergesAt given o whole old new arm later full Damage Shows (Err e) → AccountsAt o whole (having v old arm) (having w new later) Damage (Err e)
+  ended_accounts_at e m = record { failed = tt; stops = tt; counts = tt; damaged = tt; memory = m.memory; later = m.since.arm }
 
-    pub ended_accounts : (Damage : List ℕ → Type 0) → Accounts (counts m) Damage (Err e)
-    ended_accounts Damage = record { causes = tt; damaged = tt; memory = ms.ends; later = ms.later }
+-- ---- what was asked for
+
+module _ {F : Type 0} (files_of : F → Option Files) (given : Premise → Type 0) (before : History) (o : AtOpening) (whole : ℕ) (text : OptimizeText) where
+  abbrev Final : Partition → Type 0
+  Final p = IsFinalAt files_of given before o whole text.table p
+
+  abbrev Comes : Type 0
+  Comes = MergesAsAsked files_of given before o whole text
+
+  -- with FINAL
+  module _ (final : text.whole ≡ true) where
+    not_pair : text.whole ≡ false → ⊥
+    not_pair is = false≢true (sym is ∙ final)
+
+    -- each partition of the table
+    pub all_final : text.partition ≡ None → (partitions : List Partition) → ListsAsAsked files_of given before o text partitions → All Final partitions → Comes
+    all_final none partitions listed each = record {
+      final = λ is.
+          subst (λ (id : Option (List ℕ)). MatchOption id ((ps : List Partition) × WereIn files_of given before o text.table ps × All Final ps) (λ _. (p : Partition) → IsNamed text text.table p → Final p)) (sym none)
+          (partitions, listed final none, each);
+      pair = λ is. absurd (not_pair is);
+    }
+
+    -- those that an id names
+    pub named_final : (id : List ℕ) → text.partition ≡ Some id → ((p : Partition) → IsNamed text text.table p → Final p) → Comes
+    named_final id named each = record {
+      final = λ is.
+          subst (λ (id : Option (List ℕ)). MatchOption id ((ps : List Partition) × WereIn files_of given before o text.table ps × All Final ps) (λ _. (p : Partition) → IsNamed text text.table p → Final p)) (sym named) each;
+      pair = λ is. absurd (not_pair is);
+    }
+
+  -- without it
+  pub pair_merged : text.whole ≡ false → WasMerged files_of given before o whole (IsNamed text) (HasPairOf o.policy (IsNamed text)) ⊎ FoundNoPair files_of given before o whole (IsNamed text) ⊎ ((t : List ℕ) (p : Partition) → IsNamed text t p → ⊥) → Comes
+  pair_merged not is = record { final = λ bad. absurd (false≢true (sym not ∙ bad)); pair = λ _. is }
+
+-- ---- which partitions are named
+
+module _ (text : OptimizeText) where
+  -- each of the table, where no id is there
+  pub named_all : text.partition ≡ None → (t : List ℕ) (p : Partition) → t ≡ text.table → IsNamed text t p
+  named_all none t p is = (is, subst (λ (x : Option (List ℕ)). IfSome x (λ id. IsPartition p × (partition_text p ≡ id))) (sym none) tt)
+
+  module _ (id : List ℕ) (there : text.partition ≡ Some id) where
+    named_by : (t : List ℕ) (p : Partition) → IsNamed text t p → IsPartition p × (partition_text p ≡ id)
+    named_by t p is = subst (λ (x : Option (List ℕ)). IfSome x (λ i. IsPartition p × (partition_text p ≡ i))) there is.1
+
+    -- the one that the id spells
+    pub named_one : (q : Partition) → IsPartition q × (partition_text q ≡ id) → (t : List ℕ) (p : Partition) → t ≡ text.table → p ≡ q → IsNamed text t p
+    named_one q spelled t p is same =
+        (is, subst (λ (x : Option (List ℕ)). IfSome x (λ i. IsPartition p × (partition_text p ≡ i))) (sym there) (subst (λ (r : Partition). IsPartition r × (partition_text r ≡ id)) (sym same) spelled))
+
+    pub one_named : (found : Option Partition) → ((p : Partition) → IsPartition p → partition_text p ≡ id → found ≡ Some p) → (q : Partition) → found ≡ Some q → (t : List ℕ) (p : Partition) → IsNamed text t p → p ≡ q
+    one_named found read q is t p named = let n = named_by t p named in let same : Some p ≡ Some q = sym (read p n.0 n.1) ∙ is in cc
+
+    -- none where it spells none
+    pub none_named : (found : Option Partition) → ((p : Partition) → IsPartition p → partition_text p ≡ id → found ≡ Some p) → found ≡ None → (t : List ℕ) (p : Partition) → IsNamed text t p → ⊥
+    none_named found read is t p named = let n = named_by t p named in let bad : Some p ≡ None = sym (read p n.0 n.1) ∙ is in cc
+
+-- a pair of a scope that has just the partitions that are named
+module _ {F : Type 0} (files_of : F → Option Files) (given : Premise → Type 0) (before : History) (o : AtOpening) (whole : ℕ) (old new : Tally) (arm later : ℕ) (text : OptimizeText) (not : text.whole ≡ false) (scope : Scope)
+    (into : (t : List ℕ) (p : Partition) → InScope scope t p → IsNamed text t p) (back : (t : List ℕ) (p : Partition) → IsNamed text t p → InScope scope t p) where
+  abbrev Pair : Type 0
+  Pair = WasMerged files_of given before o whole (InScope scope) (HasPair o.policy scope) ⊎ FoundNoPair files_of given before o whole (InScope scope)
+
+  pair_says : Pair → MergesAsAsked files_of given before o whole text
+  pair_says (inl m) =
+      pair_merged files_of given before o whole text not
+      (inl (merged_of files_of given before o whole (InScope scope) (IsNamed text) into (HasPair o.policy scope) (HasPairOf o.policy (IsNamed text)) (λ store work has. (scope, λ t p. (into t p, back t p), has)) m))
+  pair_says (inr n) = pair_merged files_of given before o whole text not (inr (inl (no_pair_of files_of given before o whole (InScope scope) (IsNamed text) back n)))
+
+  pub asked_pair : (result : Result (Option (List ℕ)) NoMemory) → MergesAt given o whole old new arm later false (TellsOfHanded files_of given before o (InScope scope)) Pair result
+      → MergesAt given o whole old new arm later text.whole (TellsOfHanded files_of given before o (IsNamed text)) (MergesAsAsked files_of given before o whole text) result
+  asked_pair result m =
+      merges_as given o whole old new arm later false text.whole (TellsOfHanded files_of given before o (InScope scope)) (TellsOfHanded files_of given before o (IsNamed text))
+      Pair (MergesAsAsked files_of given before o whole text) (λ bad. cc) (tells_of files_of given before o whole (InScope scope) (IsNamed text) into) pair_says result m
+
+-- with FINAL, of a table or of a partition
+module _ {F : Type 0} (files_of : F → Option Files) (given : Premise → Type 0) (before : History) (o : AtOpening) (whole : ℕ) (old new : Tally) (arm later : ℕ) (text : OptimizeText) (final : text.whole ≡ true) (These : List ℕ → Partition → Type 0)
+    (into : (t : List ℕ) (p : Partition) → These t p → IsNamed text t p) (Shows : Type 0) (says : Shows → MergesAsAsked files_of given before o whole text) where
+  pub asked_final : (result : Result (Option (List ℕ)) NoMemory) → MergesAt given o whole old new arm later true (TellsOfHanded files_of given before o These) Shows result
+      → MergesAt given o whole old new arm later text.whole (TellsOfHanded files_of given before o (IsNamed text)) (MergesAsAsked files_of given before o whole text) result
+  asked_final result m =
+      merges_as given o whole old new arm later true text.whole (TellsOfHanded files_of given before o These) (TellsOfHanded files_of given before o (IsNamed text))
+      Shows (MergesAsAsked files_of given before o whole text) (λ any. final) (tells_of files_of given before o whole These (IsNamed text) into) says result m
+
+-- where no partition is spelled so
+module _ {F : Type 0} (files_of : F → Option Files) (given : Premise → Type 0) (before : History) (o : AtOpening) (whole : ℕ) (text : OptimizeText) (id : List ℕ) (there : text.partition ≡ Some id) (none : (t : List ℕ) (p : Partition) → IsNamed text t p → ⊥) where
+  pub asked_none : MergesAsAsked files_of given before o whole text
+  asked_none = by text.whole refl
+    where
+      by : (b : Bool) → text.whole ≡ b → MergesAsAsked files_of given before o whole text
+      by true is = named_final files_of given before o whole text is id there (λ p named. absurd (none text.table p named))
+      by false is = pair_merged files_of given before o whole text is (inr (inr none))

@@ -1,5 +1,5 @@
 -- What the store tells of the tables of the history that it stands for, and of their rows.
-use Rattle.std.proofs.Common.{◌≡◌, ℕ, List, [], ◌∷◌, ◌++◌, refl, sym, ap, ◌∙◌, subst, Option, Some, None}
+use Rattle.std.proofs.Common.{◌≡◌, ℕ, List, [], ◌∷◌, ◌++◌, refl, sym, ap, ◌∙◌, subst, Option, Some}
 use Rattle.std.specs.Option.{option_map}
 use Rattle.mt_values.specs.declared.mutation.Mutation.{Mutation}
 use Rattle.mt_values.specs.declared.schema.Schema.{Schema}
@@ -39,10 +39,6 @@ pub record Held {F : Type 0} (files_of : F → Option Files) (h : History) (tabl
 module _ {F : Type 0} (files_of : F → Option Files) (h : History) (store : CoreStore F) (s : CoreStands files_of h store) (table : List ℕ) where
   abbrev schema_at : Option Table → Option Schema
   schema_at found = option_map (λ (t : Table). t.schema) found
-
-  -- a name that no table of the store has is no table's
-  pub no_table : table_at store table ≡ None → schema_of table h ≡ None
-  no_table none = sym (s.tables table) ∙ ap schema_at none
 
   module _ (t : Table) (there : table_at store table ≡ Some t) where
     pub table_schema : schema_of table h ≡ Some t.schema

@@ -18,9 +18,6 @@ module _ {X : Type 0} (P : X → Type 0) where
   all_after [] ys all = all
   all_after (x ∷ xs) ys all = all_after xs ys (All-tail P x (xs ++ ys) all)
 
-  pub last_has : (all xs : List X) (x : X) → all ≡ xs ++ x ∷ [] → All P all → P x
-  last_has all xs x is are = All-head P x [] (all_after xs (x ∷ []) (subst (All P) is are))
-
   pub others_have : (all xs : List X) (x : X) → all ≡ xs ++ x ∷ [] → All P all → All P xs
   others_have all xs x is are = all_before xs (x ∷ []) (subst (All P) is are)
 

@@ -1,8 +1,7 @@
 -- No reply tells of damage of parts that hold rows.
-use Rattle.std.proofs.Common.{◌≡◌, ℕ, Bool, true, false, List, Option, Result, Ok, Err, IfOk, length, sym, refl, subst}
+use Rattle.std.proofs.Common.{◌≡◌, ℕ, Bool, true, false, List, Option, Ok, Err, length, sym, subst}
 use Rattle.std.specs.List.{All, AllZip}
 use Rattle.std.proofs.lemmas.List.Elements.{All-contains}
-use Rattle.mt_base.specs.declared.memory.NoMemory.{NoMemory}
 use Rattle.mt_values.specs.declared.expr.Test.{Test}
 use Rattle.mt_values.specs.declared.schema.Schema.{Schema}
 use Rattle.mt_values.specs.declared.statement.SelectText.{SelectText}
@@ -12,8 +11,7 @@ use Rattle.mt_values.specs.Granules.{granules}
 use Rattle.mt_values.specs.Script.{Item}
 use Rattle.mt_values.specs.Values.{Row}
 use Rattle.mt_outside.specs.Files.{Files}
-use Rattle.replies.specs.mt_model.History.{IsTableSchema}
-use Rattle.replies.specs.mt_model.Refusals.{is_damage}
+use Rattle.replies.specs.mt_model.History.{History, IsTableSchema}
 use Rattle.shared_store.specs.part_name.declared.part.PartName.{PartName}
 use Rattle.shared_store.specs.part_reader.declared.reading.Part.{Part}
 use Rattle.shared_store.specs.part_reader.declared.reading.PartFault.{PartFault}
@@ -21,19 +19,18 @@ use Rattle.shared_store.specs.part_reader.declared.reading.PartFault.TheVariants
 use Rattle.shared_store.specs.part_reader.Faults.{IsNoDamage}
 use Rattle.shared_store.specs.part_set.declared.kept.Kept.{Kept}
 use Rattle.shared_store.specs.part_set.declared.kept.Snap.{Snap}
-use Rattle.shared_store.specs.part_set.Sets.{parts_of}
-use Rattle.shared_store.specs.root_store.declared.store.CoreStore.{CoreStore}
-use Rattle.shared_store.specs.root_store.Soundness.{HasSoundParts, HoldsRows}
+use Rattle.shared_store.specs.root_store.Soundness.{HoldsRows}
+use Rattle.shared_store.specs.Sharing.{AtOpening}
+use Rattle.shared_store.specs.Stood.{Premise, is_held, is_told}
 use Rattle.shared_store.proofs.RootStoreTableMarks.{has_marks}
 use Rattle.final_fold.specs.select_plan.Plans.{planned}
 use Rattle.final_fold.specs.declared.asking.Wanted.{Wanted}
 use Rattle.final_fold.specs.Matches.{SayOfEach}
 use Rattle.final_fold.specs.row_merge.MergedParts.{PartsHold}
-use Rattle.final_fold.proofs.Sound.{fold_sound, matches_sound, whole_sound}
-use Rattle.replies.specs.Causes.{Counts}
-use Rattle.session.specs.Lapses.{Accounts}
-use Rattle.session.specs.Merges.{TellsOfTable}
-use Rattle.session.specs.Selects.{ExplainsRead, TellsOfDamage, TellsOfSelect, TellsOfStatement}
+use Rattle.final_fold.proofs.RowMergeSound.{whole_sound}
+use Rattle.final_fold.proofs.Sound.{fold_sound, matches_sound}
+use Rattle.session.specs.Answers.{TellsAt}
+use Rattle.session.specs.Selects.{ExplainsRead, TellsOfDamage}
 use Rattle.session.proofs.Damaged.{all_hold}
 use Rattle.session.proofs.Matching.{reads_count}
 
@@ -60,35 +57,16 @@ read_sound {F} files_of snap is_final c w e same fits sound why = by is_final wh
 pub pinned_sound : {F : Type 0} (files_of : F → Option Files) (snap : Snap (Part F)) (text : SelectText) (reply : List ℕ) → All (HoldsRows files_of snap.schema) snap.parts.items → TellsOfDamage files_of snap text reply → ⊥
 pinned_sound files_of snap text reply sound t = read_sound files_of snap text.is_final t.query.condition t.read (t.name, fault.Damaged t.file t.place t.wanted t.found) t.read_is.schema t.table sound t.part
 
--- ---- of a store
+-- ---- of what a session's seat knows
 
-select_sound : {F : Type 0} (files_of : F → Option Files) (store : CoreStore F) (text : SelectText) (reply : List ℕ) → HasSoundParts files_of store → TellsOfSelect files_of store text reply → ⊥
-select_sound files_of store text reply held t =
-    let snap = t.0 in
-    let pinned = t.1 in
-    pinned_sound files_of snap text reply
-    (subst (λ (ks : List (Kept (Part _))). All (HoldsRows files_of snap.schema) ks) (sym pinned.parts)
-    (subst (λ (s : Schema). All (HoldsRows files_of s) (parts_of store.set text.table)) (sym pinned.schema) (held text.table pinned.made pinned.there))) t.2
-
-table_sound : {F : Type 0} (files_of : F → Option Files) (store : CoreStore F) (table reply : List ℕ) → HasSoundParts files_of store → TellsOfTable files_of store table reply → ⊥
-table_sound {F} files_of store table reply held t =
-    let tells = t.tells in
-    let own = All-contains (λ (k : Kept (Part F)). HoldsRows files_of t.made.schema k) (parts_of store.set table) tells.kept (held table t.made t.there) tells.here in
-    whole_sound files_of t.made.schema tells.kept.part own.0 own.1 (fault.Damaged tells.file tells.place tells.wanted tells.found) tells.explained
-
-pub statement_sound : {F : Type 0} (files_of : F → Option Files) (store : CoreStore F) (st : Item) (reply : List ℕ) → HasSoundParts files_of store → TellsOfStatement files_of store st reply → ⊥
-statement_sound files_of store (Ok (statement.Create c)) reply held tells = tells
-statement_sound files_of store (Ok (statement.Insert i)) reply held tells = tells
-statement_sound files_of store (Ok (statement.Select s)) reply held tells = select_sound files_of store s reply held tells
-statement_sound files_of store (Ok (statement.Explain s)) reply held tells = tells
-statement_sound files_of store (Ok (statement.Optimize o)) reply held tells = table_sound files_of store o.table reply held tells
-statement_sound files_of store (Err why) reply held tells = tells
-
--- a reply that may tell only of damage that there is not tells of none
-pub undamaged : (c : Counts) (Damage : List ℕ → Type 0) → ((reply : List ℕ) → Damage reply → ⊥) → (r : Result (List ℕ) NoMemory) → Accounts c Damage r → IfOk r (λ reply. is_damage reply ≡ false)
-undamaged c Damage none (Ok reply) a = by (is_damage reply) refl
-  where
-    by : (b : Bool) → is_damage reply ≡ b → is_damage reply ≡ false
-    by true bad = absurd (none reply (a.damaged bad))
-    by false calm = calm
-undamaged c Damage none (Err e) a = tt
+pub tells_not : {F : Type 0} (files_of : F → Option Files) (given : Premise → Type 0) (before : History) (o : AtOpening) (list : History) (st : Item) (reply : List ℕ) → given is_told → given is_held → TellsAt files_of given before o list st reply → ⊥
+tells_not files_of given before o list (Ok (statement.Create c)) reply told held tells = tells
+tells_not files_of given before o list (Ok (statement.Insert i)) reply told held tells = tells
+tells_not files_of given before o list (Ok (statement.Select s)) reply told held t = pinned_sound files_of t.0 s reply (t.1.held told held) t.2
+tells_not files_of given before o list (Ok (statement.Explain s)) reply told held tells = tells
+tells_not {F} files_of given before o list (Ok (statement.Optimize p)) reply told held t =
+    let work = t.work in
+    let part = t.tells in
+    let own = All-contains (λ (k : Kept (Part F)). HoldsRows files_of work.schema k) work.sources.items part.kept (t.handed.held told held) part.here in
+    whole_sound files_of work.schema part.kept.part own.0 own.1 (fault.Damaged part.file part.place part.wanted part.found) part.explained
+tells_not files_of given before o list (Err why) reply told held tells = tells

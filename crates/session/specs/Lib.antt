@@ -1,9 +1,9 @@
 pub mod Answers
 pub mod Lapses
 pub mod Merges
+pub mod Runs
 pub mod Selects
 pub mod Staged
-pub mod Statements
 pub mod Stops
 pub mod Turns
 pub use Rattle.replies.specs.mt_model

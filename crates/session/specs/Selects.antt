@@ -1,17 +1,14 @@
 -- What a SELECT reads and what it tells of damage.
-use Rattle.std.specs.Prelude.{◌≡◌, ◌⊎◌, ◌<◌, ◌^◌, ℕ, [], ◌++◌, Bool, true, false, List, All, Ok, Err, Option, length, map}
+use Rattle.std.specs.Prelude.{◌≡◌, ◌⊎◌, ◌<◌, ◌^◌, ℕ, [], ◌++◌, Bool, true, false, List, All, Ok, Option, length, map}
 use Rattle.std.specs.List.{Contains as HasItem, concat}
 use Rattle.mt_base.specs.declared.name.FileId.{FileId}
 use Rattle.mt_base.specs.Files.{file_name}
 use Rattle.mt_values.specs.declared.manifest.FileMark.{FileMark}
 use Rattle.mt_values.specs.declared.schema.Schema.{Schema}
 use Rattle.mt_values.specs.declared.statement.SelectText.{SelectText}
-use Rattle.mt_values.specs.declared.statement.Statement.TheVariants as statement
-use Rattle.mt_values.specs.Annals.{Told}
 use Rattle.mt_values.specs.Grid.{Cells}
 use Rattle.mt_values.specs.Order.{key_of}
 use Rattle.mt_values.specs.Schemas.{column_types}
-use Rattle.mt_values.specs.Script.{Item}
 use Rattle.mt_values.specs.Values.{Row, types_of}
 use Rattle.mt_outside.specs.Files.{Files}
 use Rattle.replies.specs.mt_model.declared.query.Query.{Query}
@@ -43,7 +40,7 @@ use Rattle.final_fold.specs.row_merge.MergedParts.{PartsHold}
 use Rattle.final_fold.specs.Scans.{joined_rows, values_at}
 use Rattle.final_fold.specs.select_plan.declared.counting.Plan.{Plan}
 use Rattle.final_fold.specs.select_plan.Plans.{counts_over, planned}
-use Rattle.session.specs.Merges.{IsRefusal, TellsOfTable}
+use Rattle.session.specs.Merges.{IsRefusal}
 
 -- what is read is what a query asks of a pinned table: its condition, and columns that it selects (docs/architecture.md, "The way of a SELECT")
 pub record IsAskedOf {F : Type 0} (snap : Snap (Part F)) (query : Query) (wanted : Wanted) : Type 0 where
@@ -111,19 +108,6 @@ pub record TellsOfDamage {F : Type 0} (files_of : F → Option Files) (snap : Sn
   pub part : ExplainsRead files_of text.is_final snap.parts.items (planned snap text.is_final query.condition) read (name, fault.Damaged file place wanted found)
   pub reply_is : reply ≡ refusal_line (refusal.Damaged text.table (part_text name) (file_name file))
 
--- the reply to a SELECT of a table that a store keeps tells of damage of its parts (docs/replies.md, "Faults")
-abbrev pub TellsOfSelect : {F : Type 0} → (F → Option Files) → CoreStore F → SelectText → List ℕ → Type 0
-TellsOfSelect {F} files_of store text reply = (snap : Snap (Part F)) × IsSnapOf store text.table snap × TellsOfDamage files_of snap text reply
-
--- of which damage the reply to a statement may tell (docs/replies.md, "Faults")
-abbrev pub TellsOfStatement : {F : Type 0} → (F → Option Files) → CoreStore F → Item → List ℕ → Type 0
-TellsOfStatement files_of store (Ok (statement.Create c)) reply = ⊥
-TellsOfStatement files_of store (Ok (statement.Insert i)) reply = ⊥
-TellsOfStatement files_of store (Ok (statement.Select s)) reply = TellsOfSelect files_of store s reply
-TellsOfStatement files_of store (Ok (statement.Explain s)) reply = ⊥
-TellsOfStatement files_of store (Ok (statement.Optimize o)) reply = TellsOfTable files_of store o.table reply
-TellsOfStatement files_of store (Err why) reply = ⊥
-
 -- The reply has a line for each of the rows that a pinned table's parts hold and that meet the condition: of the selected columns, sorted by these
 -- (docs/replies.md, "SELECT").
 pub record ReadsParts {F : Type 0} (files_of : F → Option Files) (snap : Snap (Part F)) (text : SelectText) (reply : List ℕ) : Type 0 where
@@ -139,10 +123,10 @@ pub record ReadsParts {F : Type 0} (files_of : F → Option Files) (snap : Snap 
 abbrev pub ReadsPlain : {F : Type 0} → (F → Option Files) → CoreStore F → SelectText → List ℕ → Type 0
 ReadsPlain {F} files_of store text reply = text.is_final ≡ false → IsRefusal reply ⊎ ((snap : Snap (Part F)) × IsSnapOf store text.table snap × ReadsParts files_of snap text reply)
 
--- A SELECT of a table that a store keeps is answered so: with a reply that it may have at the end of the history, whatever the outside comes to, and
+-- A SELECT of a table that a store keeps is answered so: with a reply that any session's may have at the end of the history, whatever the outside comes to, and
 -- without FINAL by the rows of the parts as they are (docs/definitions.md, "SELECT").
-pub record SelectsFrom {F : Type 0} (files_of : F → Option Files) (store : CoreStore F) (kept : Told) (text : SelectText) (arm : ℕ) (reply : List ℕ) : Type 0 where
-  pub takes : Selected kept text arm store.opened reply
+pub record SelectsFrom {F : Type 0} (files_of : F → Option Files) (store : CoreStore F) (h : History) (text : SelectText) (arm : ℕ) (reply : List ℕ) : Type 0 where
+  pub takes : Selected h text arm reply
   pub plain : ReadsPlain files_of store text reply
 
 -- The reply to an EXPLAIN has the numbers of the plan of its SELECT over a pinned table, and the length of its history (docs/definitions-of-runs.md,
@@ -151,7 +135,3 @@ pub record CountsPlan {F : Type 0} (snap : Snap (Part F)) (text : SelectText) (r
   pub query : Query
   pub asked : query_of snap.schema.columns text ≡ Ok query
   pub reply_is : reply ≡ explain_line (counts_over (planned snap text.is_final query.condition)) snap.length
-
--- an EXPLAIN of a table that a store keeps counts the parts and granules that there are, unless it is refused (docs/replies.md, "Replies")
-abbrev pub CountsFrom : {F : Type 0} → CoreStore F → SelectText → List ℕ → Type 0
-CountsFrom {F} store text reply = IsRefusal reply ⊎ ((snap : Snap (Part F)) × IsSnapOf store text.table snap × CountsPlan snap text reply)

@@ -1,10 +1,10 @@
-// Running an INSERT.
-ghost use Rattle.std.specs.Prelude.{◌≡◌, Ok, true};
+// Running an INSERT of a session.
+ghost use Rattle.std.specs.Prelude.{◌≡◌, ◌<◌, Ok, true};
 ghost use Rattle.mt_values.specs.declared.statement.Statement.TheVariants as statement;
-ghost use Rattle.mt_values.specs.Annals.{Told};
-ghost use Rattle.session.specs.Answers.{Answers, Knows, met};
-ghost use Rattle.session.specs.Lapses.{Accounts, Leaves, Never, counts, lapse};
-ghost use Rattle.session.specs.Turns.{AddsParts};
+ghost use Rattle.shared_store.specs.history_seat.Turns.{IsSession};
+ghost use Rattle.shared_store.specs.Stood.{is_told};
+ghost use Rattle.session.specs.Lapses.{Never};
+ghost use Rattle.session.specs.Answers.{AccountsAt, AnswersAt, KnowsOwn, StaysSession, StaysStopped, TriesAt, having};
 
 use crate::read_block;
 use crate::sealing::seal_blocks;
@@ -14,33 +14,50 @@ use mt_base::{NoMemory, Stop};
 use mt_outside::{Arm, Dir, Disk};
 use mt_values::{Annals, InsertText};
 use replies::{Reply, data_line, failed_line, no_table_line, stage_line};
-use shared_store::Engine;
+use shared_store::history_seat::Seat;
+use shared_store::{Names, Share, Shared};
 use std::alloc::Global;
+use std::sync::Wait;
 
 /// Adds the rows of an INSERT to its table, partition by partition, unless it is refused. All parts are sealed before the first of
 /// them has its turn. What was accepted before a turn that is refused stands.
 ///
-/// `NoMemory` where an allocation failed; the annals list the commands that were accepted before, and no count of faults rose.
-#[tactic(auto, using(crate::proofs::Accepting::keeps_nothing, crate::proofs::Leaving::accounts_none, crate::proofs::Leaving::leaves_itself, crate::proofs::Adding::adds_itself))]
-pub fn insert<F: Dir, R: Arm<Dir = F>, D: Disk<Arm = R>, A: Annals>(
+/// `NoMemory` where an allocation failed; what was accepted before stands, and the arm's count of faults is as it was.
+#[tactic(auto, using(crate::proofs::Answering::answers_looked, crate::proofs::Answering::accounts_looked, crate::proofs::Answering::stays_looked, crate::proofs::OnceStopped::stopped_looked, crate::proofs::Tries::tries_looked))]
+pub fn insert<W: Wait, F: Dir, R: Arm<Dir = F>, D: Disk<Arm = R>, A: Annals, B: Names>(
+    rt: &W,
     alloc: Global,
-    engine: &mut Engine<F, R, D, A>,
+    shared: &Shared<F, R, D, A, B>,
+    seat: &mut Seat<B>,
+    share: &mut Share<B>,
     arm: &mut R,
     text: &InsertText,
 ) -> Result<Reply, NoMemory>
-    // What is answered, and why.
-    ensures answers { (kept : Told) → R.tells arm.old ≡ true → Knows F.files kept engine.old
-        → Answers F.files kept (Ok (statement.Insert text.now))
-        (met engine.old engine.new (R.failed arm.new)) result }
-    ensures accounts { Accounts
-        (counts (lapse engine.old engine.new (R.failed arm.old) (R.failed arm.new))) Never result }
+    requires session { IsSession seat.old }
+    requires own { KnowsOwn seat.old }
+    requires parts { 0 < share.old.parts }
+    requires tells { B.given is_told → R.tells arm.old ≡ true }
 
-    // What the root and the arm are then.
-    ensures leaves { Leaves F.files (R.tells arm.old ≡ true) engine.old engine.new }
-    ensures adds { AddsParts text.now.table engine.old.store engine.new.store }
+    // What is answered, and why.
+    ensures answers { AnswersAt B.given B.before B.opening B.ledgers.parts
+        (Ok (statement.Insert text.now)) (having seat.old share.old (R.failed arm.old))
+        (having seat.new share.new (R.failed arm.new)) result }
+    ensures accounts { AccountsAt B.opening B.ledgers.parts
+        (having seat.old share.old (R.failed arm.old))
+        (having seat.new share.new (R.failed arm.new)) Never result }
+
+    // What the session has then.
+    ensures stays { StaysSession B.opening B.ledgers.parts
+        (having seat.old share.old (R.failed arm.old))
+        (having seat.new share.new (R.failed arm.new)) }
+    ensures stopped { StaysStopped (having seat.old share.old (R.failed arm.old))
+        (having seat.new share.new (R.failed arm.new)) result }
+    ensures tries { TriesAt B.given B.before (Ok (statement.Insert text.now))
+        (having seat.old share.old (R.failed arm.old))
+        (having seat.new share.new (R.failed arm.new)) result }
     ensures tells { R.tells arm.new ≡ R.tells arm.old }
 {
-    let Some(schema) = engine.schema(alloc, &text.table)? else {
+    let Some(schema) = shared.schema(rt, alloc, seat, &text.table)? else {
         return no_table_line(alloc, &text.table);
     };
     let block = match read_block(alloc, &schema, text) {
@@ -48,7 +65,7 @@ pub fn insert<F: Dir, R: Arm<Dir = F>, D: Disk<Arm = R>, A: Annals>(
         Err(Stop::NoMemory) => return Err(NoMemory),
         Err(Stop::Refused(fault)) => return data_line(alloc, fault),
     };
-    let unchanged = Reply::accepted(alloc, engine.look())?;
+    let unchanged = Reply::accepted(alloc, shared.look(rt, seat))?;
     if block.is_empty() {
         return Ok(unchanged);
     }
@@ -58,5 +75,15 @@ pub fn insert<F: Dir, R: Arm<Dir = F>, D: Disk<Arm = R>, A: Annals>(
         Ok(parts) => parts,
         Err(error) => return stage_line(error, failed),
     };
-    commit_parts(alloc, engine, arm, &text.table, parts, unchanged)
+    commit_parts(
+        rt,
+        alloc,
+        shared,
+        seat,
+        share,
+        arm,
+        &text.table,
+        parts,
+        unchanged,
+    )
 }

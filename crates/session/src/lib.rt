@@ -1,4 +1,4 @@
-//! Running one statement over a store: a CREATE, an INSERT, a SELECT, an EXPLAIN or an OPTIMIZE, from its text to its reply.
+//! Running the statements of a session over a root that is shared: a CREATE, an INSERT, a SELECT, an EXPLAIN or an OPTIMIZE, each from its text to its reply.
 #![tactic(auto)]
 
 mod creates;
@@ -11,6 +11,7 @@ mod optimizes;
 mod sealing;
 mod seen;
 mod selects;
+mod sessions;
 mod staging;
 mod statements;
 mod stopped;
@@ -22,14 +23,15 @@ pub use explains::{count_reads, explain};
 pub use final_fold::row_merge;
 pub use inserts::insert;
 pub use laws::sound_parts_are_not_damaged;
-pub use merging::merge_work;
+pub use merge_workers::{give_back, give_back_part};
 pub use optimizes::optimize;
 pub use replies;
 pub use replies::{run_streams, tsv_rows};
-pub use sealing::{SealedBlock, give_back_part, give_back_parts, seal_blocks};
+pub use sealing::{SealedBlock, give_back_parts, seal_blocks};
 pub use seen::add_seen;
 pub use selects::{scan, select};
+pub use sessions::{Replies, run_session};
 pub use shared_store;
-pub use staging::{give_back, seal_entry};
+pub use staging::seal_entry;
 pub use statements::run_statement;
 pub use turns::{TurnReply, commit_parts};

@@ -1,25 +1,24 @@
-// A work of parts, merged and put in its place, or given up.
-ghost use Rattle.std.specs.Prelude.{◌≡◌, ◌<◌, true, IfErr, IfOk, length};
+// A work that an OPTIMIZE took up, carried out, and what is replied.
+ghost use Rattle.std.specs.Prelude.{◌+◌, ◌<◌, ◌≡◌, IfErr, IfOk, Ok, true};
 ghost use Rattle.replies.specs.mt_model.declared.refusal.Refusal.TheVariants as refusal;
-ghost use Rattle.replies.specs.mt_model.History.{IsTableSchema};
 ghost use Rattle.replies.specs.mt_model.Refusals.{refusal_line};
-ghost use Rattle.shared_store.specs.Engines.{GoesOn};
-ghost use Rattle.session.specs.Lapses.{lapse};
-ghost use Rattle.session.specs.Merges.{EndsWork, IsUnreadLine, SealsWork};
+ghost use Rattle.shared_store.specs.Levels.{any_greatest};
+ghost use Rattle.shared_store.specs.Stood.{is_told};
+ghost use Rattle.session.specs.Merges.{IsUnreadLine};
+ghost use Rattle.session.specs.Answers.{IsThat, MergesAt, TellsOfHanded, WasPut};
 
-use crate::give_back_part;
 use crate::stopped::refused_line;
-use final_fold::row_merge::merge_parts;
+use merge_workers::{Carried, carry_out};
 use mt_base::NoMemory;
 use mt_outside::{Arm, Dir, Disk};
 use mt_values::{Annals, Name};
 use replies::{MergeReplies, Reply, damaged};
+use shared_store::handed::Work;
 use shared_store::part_name::PartName;
 use shared_store::part_reader::PartFault;
-use shared_store::part_writer::SealedPart;
-use shared_store::root_commits::Returned;
-use shared_store::{Engine, Put, Work};
+use shared_store::{Names, Share, Shared};
 use std::alloc::Global;
+use std::sync::Wait;
 
 /// How many commands of its statement are accepted before a merge: it is none.
 const ACCEPTED: usize = 0;
@@ -46,69 +45,43 @@ fn unread_line(
     }
 }
 
-/// Puts the part that a work's parts became in their place, or gives it back to the arm: also where a source is gone. The reply where it
-/// was refused, else none.
+/// Carries a work of a table out. The reply where it was refused, and none where it was put, or where a part of it was gone by then.
 ///
-/// `NoMemory` where an allocation failed; no count of faults rose.
-fn put_part<F: Dir, R: Arm<Dir = F>, D: Disk<Arm = R>, A: Annals>(
+/// `NoMemory` where an allocation failed.
+pub(crate) fn merge_work<W: Wait, F: Dir, R: Arm<Dir = F>, D: Disk<Arm = R>, A: Annals, B: Names>(
+    rt: &W,
     alloc: Global,
-    engine: &mut Engine<F, R, D, A>,
+    shared: &Shared<F, R, D, A, B>,
+    share: &mut Share<B>,
     arm: &mut R,
     table: &Name,
-    work: Work<F>,
-    part: SealedPart<R::Stage>,
-    unsettled: Reply,
-) -> Result<Option<Reply>, NoMemory>
-    requires some { 0 < length work.sources.items }
-    requires none_failed { part.sealed.failed ≡ 0 }
-    requires unsettled { unsettled ≡ refusal_line (refusal.Unsettled 0) }
-    requires sealed { R.tells arm.old ≡ true
-        → SealsWork F.files work part.sealed.files part.loaded }
-    ensures ends { EndsWork R.Stage F.files (R.tells arm.old ≡ true) table.now work
-        (lapse engine.old engine.new (R.failed arm.old) (R.failed arm.new)) result }
-    ensures goes_on { GoesOn engine.old engine.new }
-    ensures tells { R.tells arm.new ≡ R.tells arm.old }
-{
-    match engine.put_work(alloc, work, part) {
-        Ok(Put::Done) => Ok(None),
-        Ok(Put::Gone { part: _, back }) => {
-            give_back_part(arm, Some(back));
-            Ok(None)
-        }
-        Err(Returned { cause, back }) => {
-            give_back_part(arm, back);
-            let reply = refused_line(alloc, ACCEPTED, table, cause, unsettled)?;
-            Ok(Some(reply))
-        }
-    }
-}
-
-/// Merges the parts of a work and puts what they became in their place, or lets the work go. The reply where it was refused, and none
-/// where it was put, or where a source was gone by then.
-///
-/// `NoMemory` where an allocation failed; no count of faults rose.
-pub fn merge_work<F: Dir, R: Arm<Dir = F>, D: Disk<Arm = R>, A: Annals>(
-    alloc: Global,
-    engine: &mut Engine<F, R, D, A>,
-    arm: &mut R,
-    table: &Name,
-    work: Work<F>,
+    work: Work<F, B>,
     replies: MergeReplies,
 ) -> Result<Option<Reply>, NoMemory>
-    requires some { 0 < length work.sources.items }
-    requires schema { IsTableSchema work.schema }
+    requires out { 0 < share.old.out }
+    requires tells { B.given is_told → R.tells arm.old ≡ true }
+    requires table { table.now ≡ work.taken.table }
     requires failed { replies.failed ≡ refusal_line refusal.Failed }
     requires unsettled { replies.unsettled ≡ refusal_line (refusal.Unsettled 0) }
-    ensures ends { EndsWork R.Stage F.files (R.tells arm.old ≡ true) table.now work
-        (lapse engine.old engine.new (R.failed arm.old) (R.failed arm.new)) result }
-    ensures goes_on { GoesOn engine.old engine.new }
+    ensures merges { MergesAt B.given B.opening B.ledgers.parts share.old share.new
+        (R.failed arm.old) (R.failed arm.new) (any_greatest work.taken.sources.items)
+        (TellsOfHanded F.files B.given B.before B.opening
+        (IsThat work.taken.table work.taken.partition))
+        (WasPut F.files B.given B.before B.opening B.ledgers.parts work.taken) result }
+    ensures out { share.new.out + 1 ≡ share.old.out }
     ensures tells { R.tells arm.new ≡ R.tells arm.old }
 {
     let MergeReplies { failed, unsettled } = replies;
-    match merge_parts(alloc, arm, &work.schema, work.sources.as_slice()) {
-        Ok(part) => put_part(alloc, engine, arm, table, work, part, unsettled),
-        Err((part, fault)) => {
-            engine.drop_work(work);
+    // Reading what was taken up shows what is known of it.
+    prove!(!work.taken().sources.is_empty());
+    match carry_out(rt, alloc, shared, share, arm, work) {
+        Carried::Done => Ok(None),
+        Carried::Gone(_) => Ok(None),
+        Carried::Refused(cause) => {
+            let reply = refused_line(alloc, ACCEPTED, table, cause, unsettled)?;
+            Ok(Some(reply))
+        }
+        Carried::Unread(part, fault) => {
             let reply = unread_line(alloc, table, &part, fault, failed)?;
             Ok(Some(reply))
         }

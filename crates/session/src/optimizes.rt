@@ -1,30 +1,29 @@
-// Running an OPTIMIZE: parts are taken as a work in one turn, merged outside of any, and what they became is put in their place in
-// another. It adds nothing to the history.
-ghost use Rattle.std.specs.Prelude.{◌≡◌, ◌<◌, ℕ, List, Ok, true, false, is_some, IfOk, IfSome, IsSome};
-ghost use Rattle.std.specs.List.{AllPairs};
+// Running an OPTIMIZE of a session: parts are taken up as a work in one turn, merged outside of any, and what they became is put in their
+// place in another. It adds nothing to the history.
+ghost use Rattle.std.specs.Prelude.{◌<◌, ◌⊎◌, ◌≡◌, All, IfOk, IfSome, List, Ok, false, is_some, true, ℕ};
 ghost use Rattle.mt_base.specs.declared.partition.Partition.{Partition};
 ghost use Rattle.mt_values.specs.declared.statement.Statement.TheVariants as statement;
-ghost use Rattle.mt_values.specs.Annals.{Told};
+ghost use Rattle.shared_store.specs.history_seat.Turns.{IsSession, Looked};
+ghost use Rattle.shared_store.specs.Stood.{is_told};
 ghost use Rattle.shared_store.specs.mutation_queue.Scopes.{InScope};
-ghost use Rattle.shared_store.specs.part_set.Parts.{IsInBlockOrder, partition_rank};
-ghost use Rattle.shared_store.specs.part_set.Sets.{parts_of};
-ghost use Rattle.shared_store.specs.root_store.Shown.{HasNoMark};
-ghost use Rattle.shared_store.specs.root_store.Stores.{table_at};
-ghost use Rattle.session.specs.Answers.{Answers, Knows, met};
-ghost use Rattle.session.specs.Lapses.{Accounts, Leaves, counts, lapse};
-ghost use Rattle.session.specs.Merges.{Any, ArePartitionsOf, EndsAt, Finishes, IsNamed, KeepsBeside, Merges, MergesEach, MergesNamed, MergesWhole, TellsOfTable};
+ghost use Rattle.shared_store.specs.Works.{HasPair};
+ghost use Rattle.shared_store.specs.part_set.Parts.{IsInBlockOrder};
+ghost use Rattle.session.specs.Answers.{AccountsAt, AnswersAt, FoundNoPair, IsFinalAt, IsNamed, IsOf, IsThat, IsThere, KnowsOwn, ListsAsAsked, MergesAsAsked, MergesAt, StaysSession, StaysStopped, TellsOfHanded, TriesAt, WasMerged, WereIn, having};
+ghost use Rattle.session.specs.Merges.{ArePartitionsOf, IsRefusal};
 
 use crate::merging::merge_work;
 use mt_base::{NoMemory, Partition};
 use mt_outside::{Arm, Dir, Disk};
 use mt_values::{Annals, Name, OptimizeText};
-use replies::{Reply, merge_replies, no_table_line};
+use replies::{Reply, busy_line, merge_replies, no_table_line};
+use shared_store::history_seat::Seat;
 use shared_store::merge_select::Scope;
 use shared_store::part_name::parse_partition;
 use shared_store::part_reader::Part;
 use shared_store::part_set::Kept;
-use shared_store::{Engine, TakeFault};
+use shared_store::{Names, Share, Shared, TakeFault};
 use std::alloc::Global;
+use std::sync::Wait;
 
 /// The partitions of parts in block order, each once, ascending.
 ///
@@ -49,82 +48,87 @@ fn partitions_of<F: Dir>(alloc: Global, parts: &[Kept<Part<F>>]) -> Result<Vec<P
 /// The partitions of a table's parts, ascending, as they are in a snapshot that is given back at once; none where there is no such
 /// table.
 ///
-/// `NoMemory` where an allocation failed; nothing changed.
-fn listed_partitions<F: Dir, R: Arm<Dir = F>, D: Disk<Arm = R>, A: Annals>(
+/// `NoMemory` where an allocation failed.
+fn listed_partitions<W: Wait, F: Dir, R: Arm<Dir = F>, D: Disk<Arm = R>, A: Annals, B: Names>(
+    rt: &W,
     alloc: Global,
-    engine: &mut Engine<F, R, D, A>,
+    shared: &Shared<F, R, D, A, B>,
+    seat: &mut Seat<B>,
     table: &Name,
 ) -> Result<Option<Vec<Partition>>, NoMemory>
-    ensures none { IfOk result
-        (λ found. is_some found ≡ is_some (table_at engine.old.store table.now)) }
-    ensures found { IfOk result (λ found. IfSome found
-        (λ v. ArePartitionsOf (parts_of engine.old.store.set table.now) v.items)) }
-    ensures stays { engine.new ≡ engine.old }
+    requires { IsSession seat.old }
+    ensures looked { Looked seat.old seat.new.list seat.new }
+    ensures there { IfOk result (λ found. IsThere B.given B.before B.opening.tables seat.new.list
+        table.now (is_some found)) }
+    ensures are { IfOk result (λ found. IfSome found
+        (λ ps. WereIn F.files B.given B.before B.opening table.now ps.items)) }
 {
-    let Some(snap) = engine.snapshot(alloc, table)? else {
+    let Some(snap) = shared.snapshot(rt, alloc, seat, table)? else {
         return Ok(None);
     };
     let found = partitions_of(alloc, snap.parts.as_slice());
-    engine.give_back(snap);
+    shared.give_back(rt, snap);
     Ok(Some(found?))
 }
 
-/// A list without partitions, where the table is there. Takes no memory.
-fn none_listed(alloc: Global, there: bool) -> Option<Vec<Partition>>
-    ensures { is_some result ≡ there }
-{
-    if there {
-        return Some(Vec::new(alloc));
-    }
-    None
-}
-
-/// The partitions of a table's parts, ascending, where the whole table is merged; else an empty list, for which no part is copied. None
-/// where there is no such table.
+/// The partitions of the parts of an OPTIMIZE's table, ascending, where it asks for each of them with FINAL; else an empty list, for
+/// which no part is copied. None where there is no such table.
 ///
-/// `NoMemory` where an allocation failed; nothing changed.
-fn partitions_there<F: Dir, R: Arm<Dir = F>, D: Disk<Arm = R>, A: Annals>(
+/// `NoMemory` where an allocation failed.
+fn partitions_there<W: Wait, F: Dir, R: Arm<Dir = F>, D: Disk<Arm = R>, A: Annals, B: Names>(
+    rt: &W,
     alloc: Global,
-    engine: &mut Engine<F, R, D, A>,
-    table: &Name,
-    whole: bool,
+    shared: &Shared<F, R, D, A, B>,
+    seat: &mut Seat<B>,
+    text: &OptimizeText,
 ) -> Result<Option<Vec<Partition>>, NoMemory>
-    ensures none { IfOk result
-        (λ found. is_some found ≡ is_some (table_at engine.old.store table.now)) }
-    ensures found { whole ≡ true → IfOk result (λ found. IfSome found
-        (λ v. ArePartitionsOf (parts_of engine.old.store.set table.now) v.items)) }
-    ensures stays { engine.new ≡ engine.old }
+    requires { IsSession seat.old }
+    ensures looked { Looked seat.old seat.new.list seat.new }
+    ensures there { IfOk result (λ found. IsThere B.given B.before B.opening.tables seat.new.list
+        text.now.table (is_some found)) }
+    ensures listed { IfOk result (λ found. IfSome found
+        (λ ps. ListsAsAsked F.files B.given B.before B.opening text.now ps.items)) }
 {
-    if whole {
-        return listed_partitions(alloc, engine, table);
+    if text.whole && text.partition.is_none() {
+        return listed_partitions(rt, alloc, shared, seat, &text.table);
     }
-    Ok(none_listed(alloc, engine.has_table(table)))
+    let found = shared.schema(rt, alloc, seat, &text.table)?;
+    let Some(_) = found else {
+        return Ok(None);
+    };
+    Ok(Some(Vec::new(alloc)))
 }
 
 /// Merges the pair of parts in a scope of a table that the policy takes, where there is one. The reply where the merge is refused.
 ///
 /// `NoMemory` where an allocation failed.
-fn merge_pair<F: Dir, R: Arm<Dir = F>, D: Disk<Arm = R>, A: Annals>(
+fn merge_pair<W: Wait, F: Dir, R: Arm<Dir = F>, D: Disk<Arm = R>, A: Annals, B: Names>(
+    rt: &W,
     alloc: Global,
-    engine: &mut Engine<F, R, D, A>,
+    shared: &Shared<F, R, D, A, B>,
+    share: &mut Share<B>,
     arm: &mut R,
     table: &Name,
     scope: Scope<'_>,
 ) -> Result<Option<Reply>, NoMemory>
-    requires there { IsSome (table_at engine.old.store table.now) }
-    requires of { (t : List ℕ) (p : Partition) → InScope scope t p → t ≡ table.now }
-    requires free { HasNoMark engine.old.store }
-    ensures merges { Merges F.files (R.tells arm.old ≡ true)
-        (lapse engine.old engine.new (R.failed arm.old) (R.failed arm.new)) false result }
-    ensures beside { KeepsBeside (InScope scope.entry) engine.old.store engine.new.store }
-    ensures ends { EndsAt Any Any (TellsOfTable F.files engine.old.store table.now) result }
+    requires parts { 0 < share.old.parts }
+    requires tells { B.given is_told → R.tells arm.old ≡ true }
+    requires scope { (t : List ℕ) (p : Partition) → InScope scope t p → t ≡ table.now }
+    ensures merges { MergesAt B.given B.opening B.ledgers.parts share.old share.new
+        (R.failed arm.old) (R.failed arm.new) false
+        (TellsOfHanded F.files B.given B.before B.opening (InScope scope.entry))
+        (WasMerged F.files B.given B.before B.opening B.ledgers.parts (InScope scope.entry)
+        (HasPair B.opening.policy scope.entry)
+        ⊎ FoundNoPair F.files B.given B.before B.opening B.ledgers.parts (InScope scope.entry))
+        result }
+    ensures out { share.new.out ≡ share.old.out }
     ensures tells { R.tells arm.new ≡ R.tells arm.old }
 {
     let Ok(replies) = merge_replies(alloc) else {
         return Err(NoMemory);
     };
-    match engine.take_merge(alloc, scope) {
-        Ok(Some(work)) => merge_work(alloc, engine, arm, table, work, replies),
+    match shared.take_merge(rt, alloc, share, scope) {
+        Ok(Some(work)) => merge_work(rt, alloc, shared, share, arm, table, work, replies),
         Ok(None) => Ok(None),
         Err(NoMemory) => Err(NoMemory),
     }
@@ -133,30 +137,37 @@ fn merge_pair<F: Dir, R: Arm<Dir = F>, D: Disk<Arm = R>, A: Annals>(
 /// Merges all parts of a partition of a table into one, where they may be merged. The reply where the merge is refused.
 ///
 /// `NoMemory` where an allocation failed.
-fn merge_partition<F: Dir, R: Arm<Dir = F>, D: Disk<Arm = R>, A: Annals>(
+fn merge_partition<W: Wait, F: Dir, R: Arm<Dir = F>, D: Disk<Arm = R>, A: Annals, B: Names>(
+    rt: &W,
     alloc: Global,
-    engine: &mut Engine<F, R, D, A>,
+    shared: &Shared<F, R, D, A, B>,
+    share: &mut Share<B>,
     arm: &mut R,
     table: &Name,
     partition: Partition,
 ) -> Result<Option<Reply>, NoMemory>
-    requires there { IsSome (table_at engine.old.store table.now) }
-    requires free { HasNoMark engine.old.store }
-    ensures merges { Merges F.files (R.tells arm.old ≡ true)
-        (lapse engine.old engine.new (R.failed arm.old) (R.failed arm.new)) true result }
-    ensures whole { MergesWhole R.Stage F.files (R.tells arm.old ≡ true) table.now partition
-        (lapse engine.old engine.new (R.failed arm.old) (R.failed arm.new)) result }
+    requires parts { 0 < share.old.parts }
+    requires out { share.old.out ≡ 0 }
+    requires tells { B.given is_told → R.tells arm.old ≡ true }
+    ensures merges { MergesAt B.given B.opening B.ledgers.parts share.old share.new
+        (R.failed arm.old) (R.failed arm.new) true
+        (TellsOfHanded F.files B.given B.before B.opening (IsThat table.now partition))
+        (IsFinalAt F.files B.given B.before B.opening B.ledgers.parts table.now partition)
+        result }
+    ensures out { share.new.out ≡ share.old.out }
     ensures tells { R.tells arm.new ≡ R.tells arm.old }
 {
     let Ok(replies) = merge_replies(alloc) else {
         return Err(NoMemory);
     };
-    match engine.take_all(alloc, table, partition) {
-        Ok(Some(work)) => merge_work(alloc, engine, arm, table, work, replies),
+    match shared.take_all(rt, alloc, share, table, partition) {
+        Ok(Some(work)) => merge_work(rt, alloc, shared, share, arm, table, work, replies),
         Ok(None) => Ok(None),
         Err(TakeFault::NoMemory) => Err(NoMemory),
-        // No mark stands between two statements.
-        Err(TakeFault::Busy(_)) => unreachable!(),
+        Err(TakeFault::Busy(part)) => {
+            let reply = busy_line(alloc, &part)?;
+            Ok(Some(reply))
+        }
     }
 }
 
@@ -164,24 +175,28 @@ fn merge_partition<F: Dir, R: Arm<Dir = F>, D: Disk<Arm = R>, A: Annals>(
 /// then. What was put before stands.
 ///
 /// `NoMemory` where an allocation failed; what was put before stands.
-fn merge_partitions<F: Dir, R: Arm<Dir = F>, D: Disk<Arm = R>, A: Annals>(
+fn merge_partitions<W: Wait, F: Dir, R: Arm<Dir = F>, D: Disk<Arm = R>, A: Annals, B: Names>(
+    rt: &W,
     alloc: Global,
-    engine: &mut Engine<F, R, D, A>,
+    shared: &Shared<F, R, D, A, B>,
+    share: &mut Share<B>,
     arm: &mut R,
     table: &Name,
     partitions: &[Partition],
 ) -> Result<Option<Reply>, NoMemory>
-    requires there { IsSome (table_at engine.old.store table.now) }
-    requires free { HasNoMark engine.old.store }
-    requires ascend { AllPairs (λ a b. partition_rank a < partition_rank b) partitions.now }
-    ensures merges { Merges F.files (R.tells arm.old ≡ true)
-        (lapse engine.old engine.new (R.failed arm.old) (R.failed arm.new)) true result }
-    ensures each { MergesEach R.Stage F.files (R.tells arm.old ≡ true) table.now partitions.now
-        (lapse engine.old engine.new (R.failed arm.old) (R.failed arm.new)) result }
+    requires parts { 0 < share.old.parts }
+    requires out { share.old.out ≡ 0 }
+    requires tells { B.given is_told → R.tells arm.old ≡ true }
+    ensures merges { MergesAt B.given B.opening B.ledgers.parts share.old share.new
+        (R.failed arm.old) (R.failed arm.new) true
+        (TellsOfHanded F.files B.given B.before B.opening (IsOf table.now))
+        (All (IsFinalAt F.files B.given B.before B.opening B.ledgers.parts table.now)
+        partitions.now) result }
+    ensures out { share.new.out ≡ share.old.out }
     ensures tells { R.tells arm.new ≡ R.tells arm.old }
 {
     for partition in partitions {
-        match merge_partition(alloc, engine, arm, table, *partition) {
+        match merge_partition(rt, alloc, shared, share, arm, table, *partition) {
             Ok(None) => {}
             Ok(Some(refused)) => return Ok(Some(refused)),
             Err(NoMemory) => return Err(NoMemory),
@@ -194,36 +209,43 @@ fn merge_partitions<F: Dir, R: Arm<Dir = F>, D: Disk<Arm = R>, A: Annals>(
 /// partitions where the text asks for FINAL. The reply where one is refused.
 ///
 /// `NoMemory` where an allocation failed; what was put before stands.
-fn merge_as_asked<F: Dir, R: Arm<Dir = F>, D: Disk<Arm = R>, A: Annals>(
+fn merge_as_asked<W: Wait, F: Dir, R: Arm<Dir = F>, D: Disk<Arm = R>, A: Annals, B: Names>(
+    rt: &W,
     alloc: Global,
-    engine: &mut Engine<F, R, D, A>,
+    shared: &Shared<F, R, D, A, B>,
+    share: &mut Share<B>,
     arm: &mut R,
     text: &OptimizeText,
     partitions: &[Partition],
 ) -> Result<Option<Reply>, NoMemory>
-    requires there { IsSome (table_at engine.old.store text.now.table) }
-    requires parts { text.now.whole ≡ true
-        → ArePartitionsOf (parts_of engine.old.store.set text.now.table) partitions.now }
-    requires free { HasNoMark engine.old.store }
-    ensures merges { Merges F.files (R.tells arm.old ≡ true)
-        (lapse engine.old engine.new (R.failed arm.old) (R.failed arm.new)) text.now.whole result }
-    ensures named { MergesNamed R.Stage F.files (R.tells arm.old ≡ true) text.now
-        (lapse engine.old engine.new (R.failed arm.old) (R.failed arm.new)) result }
+    requires parts { 0 < share.old.parts }
+    requires out { share.old.out ≡ 0 }
+    requires tells { B.given is_told → R.tells arm.old ≡ true }
+    requires listed { ListsAsAsked F.files B.given B.before B.opening text.now partitions.now }
+    ensures merges { MergesAt B.given B.opening B.ledgers.parts share.old share.new
+        (R.failed arm.old) (R.failed arm.new) text.now.whole
+        (TellsOfHanded F.files B.given B.before B.opening (IsNamed text.now))
+        (MergesAsAsked F.files B.given B.before B.opening B.ledgers.parts text.now) result }
+    ensures out { share.new.out ≡ share.old.out }
     ensures tells { R.tells arm.new ≡ R.tells arm.old }
 {
     let table = &text.table;
     let id = match &text.partition {
-        None if text.whole => return merge_partitions(alloc, engine, arm, table, partitions),
-        None => return merge_pair(alloc, engine, arm, table, Scope::Table(table)),
+        None if text.whole => {
+            return merge_partitions(rt, alloc, shared, share, arm, table, partitions);
+        }
+        None => return merge_pair(rt, alloc, shared, share, arm, table, Scope::Table(table)),
         Some(id) => id.as_slice(),
     };
     match parse_partition(id) {
         // No part is of a partition that is spelled so.
         None => Ok(None),
-        Some(partition) if text.whole => merge_partition(alloc, engine, arm, table, partition),
+        Some(partition) if text.whole => {
+            merge_partition(rt, alloc, shared, share, arm, table, partition)
+        }
         Some(partition) => {
             let scope = Scope::Partition(table, partition);
-            merge_pair(alloc, engine, arm, table, scope)
+            merge_pair(rt, alloc, shared, share, arm, table, scope)
         }
     }
 }
@@ -231,38 +253,49 @@ fn merge_as_asked<F: Dir, R: Arm<Dir = F>, D: Disk<Arm = R>, A: Annals>(
 /// Merges parts of a table, unless the OPTIMIZE is refused: two neighbours that the policy takes, or with FINAL all parts of each
 /// partition into one. What was put before a merge that is refused stands.
 ///
-/// `NoMemory` where an allocation failed; what was put before stands, the annals are as they were, and no count of faults rose.
-pub fn optimize<F: Dir, R: Arm<Dir = F>, D: Disk<Arm = R>, A: Annals>(
+/// `NoMemory` where an allocation failed; what was put before stands, and the arm's count of faults is as it was.
+pub fn optimize<W: Wait, F: Dir, R: Arm<Dir = F>, D: Disk<Arm = R>, A: Annals, B: Names>(
+    rt: &W,
     alloc: Global,
-    engine: &mut Engine<F, R, D, A>,
+    shared: &Shared<F, R, D, A, B>,
+    seat: &mut Seat<B>,
+    share: &mut Share<B>,
     arm: &mut R,
     text: &OptimizeText,
 ) -> Result<Reply, NoMemory>
-    requires { HasNoMark engine.old.store }
+    requires session { IsSession seat.old }
+    requires own { KnowsOwn seat.old }
+    requires parts { 0 < share.old.parts }
+    requires out { share.old.out ≡ 0 }
+    requires tells { B.given is_told → R.tells arm.old ≡ true }
 
     // What is answered, and why.
-    ensures answers { (kept : Told) → R.tells arm.old ≡ true → Knows F.files kept engine.old
-        → Answers F.files kept (Ok (statement.Optimize text.now))
-        (met engine.old engine.new (R.failed arm.new)) result }
-    ensures accounts { Accounts
-        (counts (lapse engine.old engine.new (R.failed arm.old) (R.failed arm.new)))
-        (TellsOfTable F.files engine.old.store text.now.table) result }
+    ensures answers { AnswersAt B.given B.before B.opening B.ledgers.parts
+        (Ok (statement.Optimize text.now)) (having seat.old share.old (R.failed arm.old))
+        (having seat.new share.new (R.failed arm.new)) result }
+    ensures shows { IfOk result (λ reply. IsRefusal reply
+        ⊎ MergesAsAsked F.files B.given B.before B.opening B.ledgers.parts text.now) }
+    ensures accounts { AccountsAt B.opening B.ledgers.parts
+        (having seat.old share.old (R.failed arm.old))
+        (having seat.new share.new (R.failed arm.new))
+        (TellsOfHanded F.files B.given B.before B.opening (IsNamed text.now)) result }
 
-    // Which parts are merged.
-    ensures beside { KeepsBeside (IsNamed text.now) engine.old.store engine.new.store }
-    ensures whole { text.now.whole ≡ true
-        → Finishes R.Stage F.files (R.tells arm.old ≡ true) text.now
-        (lapse engine.old engine.new (R.failed arm.old) (R.failed arm.new)) result }
-
-    // What the root and the arm are then.
-    ensures leaves { Leaves F.files (R.tells arm.old ≡ true) engine.old engine.new }
+    // What the session has then.
+    ensures stays { StaysSession B.opening B.ledgers.parts
+        (having seat.old share.old (R.failed arm.old))
+        (having seat.new share.new (R.failed arm.new)) }
+    ensures stopped { StaysStopped (having seat.old share.old (R.failed arm.old))
+        (having seat.new share.new (R.failed arm.new)) result }
+    ensures tries { TriesAt B.given B.before (Ok (statement.Optimize text.now))
+        (having seat.old share.old (R.failed arm.old))
+        (having seat.new share.new (R.failed arm.new)) result }
     ensures tells { R.tells arm.new ≡ R.tells arm.old }
 {
-    let Some(partitions) = partitions_there(alloc, engine, &text.table, text.whole)? else {
+    let Some(partitions) = partitions_there(rt, alloc, shared, seat, text)? else {
         return no_table_line(alloc, &text.table);
     };
-    match merge_as_asked(alloc, engine, arm, text, partitions.as_slice()) {
-        Ok(None) => Reply::accepted(alloc, engine.look()),
+    match merge_as_asked(rt, alloc, shared, share, arm, text, partitions.as_slice()) {
+        Ok(None) => Reply::accepted(alloc, shared.look(rt, seat)),
         Ok(Some(reply)) => Ok(reply),
         Err(NoMemory) => Err(NoMemory),
     }

@@ -2,15 +2,14 @@
 //
 // The turns come in the order of the partitions. A part is moved on or taken apart, never dropped, so a list of them is taken from its
 // end: the last part of a list has the first turn, and the last block is sealed first.
-ghost use Rattle.std.specs.Prelude.{◌≡◌, ◌<◌, ◌≤◌, true, All, IfOk, IfSome, map};
-ghost use Rattle.mt_outside.specs.Causes.{Rose};
+ghost use Rattle.std.specs.Prelude.{◌≡◌, ◌<◌, ◌≤◌, true, All, IfOk, map};
 ghost use Rattle.mt_outside.specs.DiskCauses.{HasDiskCause};
 ghost use Rattle.replies.specs.mt_model.History.{IsTableSchema, column_types};
 ghost use Rattle.shared_store.specs.root_commits.Commits.{IsSealedOf};
 ghost use Rattle.session.specs.Turns.{IsPartFor, NoneFailed, in_turn};
 
-use crate::give_back;
 use block_split::PartitionBlock;
+use merge_workers::give_back_part;
 use mt_outside::{Arm, DiskError, Stage};
 use mt_values::{Block, Schema};
 use shared_store::part_writer::{SealedPart, write_part};
@@ -85,20 +84,6 @@ pub fn seal_blocks<R: Arm>(
         }
     }
     Ok(sealed)
-}
-
-/// Gives the arm back a part that it sealed, where that was not given to the disk.
-pub fn give_back_part<R: Arm>(arm: &mut R, back: Option<SealedPart<R::Stage>>)
-    ensures tells { R.tells arm.new ≡ R.tells arm.old }
-    ensures taken { IfSome back
-        (λ p. 0 < p.sealed.failed → Rose (R.failed arm.old) (R.failed arm.new)) }
-    ensures none_failed { IfSome back (λ p. p.sealed.failed ≡ 0)
-        → R.failed arm.new ≡ R.failed arm.old }
-    ensures later { R.failed arm.old ≤ R.failed arm.new }
-{
-    if let Some(SealedPart { sealed, loaded: _ }) = back {
-        give_back(arm, Some(sealed));
-    }
 }
 
 /// Gives the arm back parts that it sealed and that had no turn.

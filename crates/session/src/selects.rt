@@ -1,16 +1,16 @@
-// Running a SELECT: a table is pinned in one turn, and its parts are read outside of it.
-ghost use Rattle.std.specs.Prelude.{◌≡◌, ◌<◌, ◌^◌, Ok, ℕ, IfOk};
-ghost use Rattle.mt_values.specs.Annals.{Told};
-ghost use Rattle.replies.specs.mt_model.History.{IsTableSchema};
+// Running a SELECT of a session: a table is pinned in one turn, and its parts are read outside of it.
+ghost use Rattle.std.specs.Prelude.{◌++◌, ◌<◌, ◌^◌, ◌≡◌, IfOk, Ok, ℕ};
+ghost use Rattle.replies.specs.mt_model.History.{History, IsTableSchema};
 ghost use Rattle.replies.specs.mt_model.Queries.{query_of};
 ghost use Rattle.final_fold.specs.Scans.{rows_kept};
-ghost use Rattle.replies.specs.Foreseen.{history};
 ghost use Rattle.shared_store.specs.root_store.declared.store.CoreStore.{CoreStore};
 ghost use Rattle.shared_store.specs.root_store.Stores.{CoreStands};
 ghost use Rattle.shared_store.specs.Engines.{IsSnapOf};
-ghost use Rattle.session.specs.Answers.{Knows};
+ghost use Rattle.shared_store.specs.history_seat.Turns.{IsSession, Looked};
+ghost use Rattle.shared_store.specs.Stood.{is_listed, is_told};
 ghost use Rattle.session.specs.Lapses.{Accounts, still};
-ghost use Rattle.session.specs.Selects.{SelectsFrom, TellsOfDamage, TellsOfSelect};
+ghost use Rattle.session.specs.Selects.{SelectsFrom, TellsOfDamage};
+ghost use Rattle.session.specs.Answers.{KnowsOwn, SelectsAt, TellsOfPinned, place_of};
 
 use crate::seen::add_seen;
 use final_fold::select_plan::plan;
@@ -20,10 +20,12 @@ use mt_outside::{Arm, Dir, Disk, DiskError, Gate, Point, Who};
 use mt_values::{Annals, SelectText};
 use replies::mt_model::{Query, query_of};
 use replies::{Reply, damaged, failed_line, no_table_line, print, stage_line};
-use shared_store::Engine;
+use shared_store::history_seat::Seat;
 use shared_store::part_reader::{Part, PartFault, empty_columns};
 use shared_store::part_set::Snap;
+use shared_store::{Names, Shared};
 use std::alloc::Global;
+use std::sync::Wait;
 
 /// What a SELECT sees of a pinned table and meets its condition, of its columns. Of each part its plan chooses granules, which have each
 /// row of the part that is seen.
@@ -41,9 +43,9 @@ fn read_matches<R: Arm>(
     requires few { rows_kept snap.now.parts.items < 2 ^ 32 }
 
     // What is answered, and why.
-    ensures answers { (kept : Told) (store : CoreStore R.Dir)
-        → CoreStands R.Dir.files (history kept) store → IsSnapOf store text.now.table snap.now
-        → IfOk result (SelectsFrom R.Dir.files store kept text.now (R.failed arm.new)) }
+    ensures answers { (h : History) (store : CoreStore R.Dir) → CoreStands R.Dir.files h store
+        → IsSnapOf store text.now.table snap.now
+        → IfOk result (SelectsFrom R.Dir.files store h text.now (R.failed arm.new)) }
     ensures accounts { (opened disk : ℕ)
         → Accounts (still opened disk (R.failed arm.old) (R.failed arm.new))
         (TellsOfDamage R.Dir.files snap.now text.now) result }
@@ -82,9 +84,9 @@ pub fn scan<R: Arm>(
 ) -> Result<Reply, NoMemory>
     requires { IsTableSchema snap.now.schema }
 
-    ensures answers { (kept : Told) (store : CoreStore R.Dir)
-        → CoreStands R.Dir.files (history kept) store → IsSnapOf store text.now.table snap.now
-        → IfOk result (SelectsFrom R.Dir.files store kept text.now (R.failed arm.new)) }
+    ensures answers { (h : History) (store : CoreStore R.Dir) → CoreStands R.Dir.files h store
+        → IsSnapOf store text.now.table snap.now
+        → IfOk result (SelectsFrom R.Dir.files store h text.now (R.failed arm.new)) }
     ensures accounts { (opened disk : ℕ)
         → Accounts (still opened disk (R.failed arm.old) (R.failed arm.new))
         (TellsOfDamage R.Dir.files snap.now text.now) result }
@@ -104,27 +106,36 @@ pub fn scan<R: Arm>(
 
 /// The rows that meet the condition, of a table as it is at one turn, unless the SELECT is refused.
 ///
-/// `NoMemory` where an allocation failed; nothing changed.
-pub fn select<F: Dir, R: Arm<Dir = F>, D: Disk<Arm = R>, A: Annals, G: Gate>(
+/// `NoMemory` where an allocation failed. The session only looked in each case.
+pub fn select<W: Wait, F: Dir, R: Arm<Dir = F>, D: Disk<Arm = R>, A: Annals, B: Names, G: Gate>(
+    rt: &W,
     alloc: Global,
-    engine: &mut Engine<F, R, D, A>,
+    shared: &Shared<F, R, D, A, B>,
+    seat: &mut Seat<B>,
     arm: &mut R,
     gate: &mut G,
     text: &SelectText,
 ) -> Result<Reply, NoMemory>
-    ensures answers { (kept : Told) → Knows F.files kept engine.old → IfOk result
-        (SelectsFrom F.files engine.old.store kept text.now (R.failed arm.new)) }
-    ensures accounts { Accounts (still engine.old.store.opened engine.old.storage.failed
-        (R.failed arm.old) (R.failed arm.new))
-        (TellsOfSelect F.files engine.old.store text.now) result }
-    ensures stays { engine.new ≡ engine.old }
+    requires session { IsSession seat.old }
+    requires own { KnowsOwn seat.old }
+
+    // What is answered, and why.
+    ensures answers { B.given is_told → B.given is_listed → IfOk result
+        (SelectsAt F.files (B.before ++ seat.new.list) seat.old.number
+        (place_of B.before seat.old) (place_of B.before seat.new) text.now (R.failed arm.new)) }
+    ensures accounts { (opened disk : ℕ)
+        → Accounts (still opened disk (R.failed arm.old) (R.failed arm.new))
+        (TellsOfPinned F.files B.given B.before B.opening seat.new.list text.now) result }
+
+    // What the seat and the arm know then.
+    ensures looked { Looked seat.old seat.new.list seat.new }
     ensures tells { R.tells arm.new ≡ R.tells arm.old }
 {
-    let Some(snap) = engine.snapshot(alloc, &text.table)? else {
+    let Some(snap) = shared.snapshot(rt, alloc, seat, &text.table)? else {
         return no_table_line(alloc, &text.table);
     };
-    gate.pass(Who::Session(0), Point::ScanStart);
+    gate.pass(Who::Session(seat.number()), Point::ScanStart);
     let reply = scan(alloc, &snap, arm, text);
-    engine.give_back(snap);
+    shared.give_back(rt, snap);
     reply
 }

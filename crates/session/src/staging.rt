@@ -1,6 +1,5 @@
-// What is sealed for a command, and what becomes of it where it was not committed.
-ghost use Rattle.std.specs.Prelude.{◌≡◌, ◌<◌, ◌≤◌, ◌^◌, Some, length, true, IfOk, IfSome, OnOk};
-ghost use Rattle.mt_outside.specs.Causes.{Rose};
+// What is sealed for a CREATE.
+ghost use Rattle.std.specs.Prelude.{◌≡◌, ◌<◌, ◌^◌, Some, length, true, IfOk, OnOk};
 ghost use Rattle.mt_outside.specs.DiskCauses.{HasDiskCause};
 ghost use Rattle.session.specs.Staged.{entry_files};
 
@@ -41,18 +40,5 @@ pub fn seal_entry<R: Arm>(
             arm.abandon(rest.into_stage());
             Err(cause)
         }
-    }
-}
-
-/// Gives the arm back what it sealed, where that was not given to the disk. Where a call of it had failed, the arm's count rises, and
-/// else it stays.
-pub fn give_back<R: Arm>(arm: &mut R, back: Option<Sealed<R::Stage>>)
-    ensures tells { R.tells arm.new ≡ R.tells arm.old }
-    ensures taken { IfSome back (λ s. 0 < s.failed → Rose (R.failed arm.old) (R.failed arm.new)) }
-    ensures none_failed { IfSome back (λ s. s.failed ≡ 0) → R.failed arm.new ≡ R.failed arm.old }
-    ensures later { R.failed arm.old ≤ R.failed arm.new }
-{
-    if let Some(sealed) = back {
-        arm.abandon(sealed.into_stage());
     }
 }

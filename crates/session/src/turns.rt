@@ -1,28 +1,32 @@
-// The turns of an INSERT: one for each of its parts.
-ghost use Rattle.std.specs.Prelude.{◌≡◌, All, IsSome, Ok, Some};
+// The turns of an INSERT of a session: one for each of its parts.
+ghost use Rattle.std.specs.Prelude.{◌≡◌, ◌+◌, ◌<◌, ◌++◌, ℕ, Ok, Some};
 ghost use Rattle.mt_values.specs.declared.schema.Schema.{Schema};
 ghost use Rattle.mt_values.specs.declared.statement.InsertText.{InsertText};
 ghost use Rattle.mt_values.specs.declared.statement.Statement.TheVariants as statement;
-ghost use Rattle.mt_values.specs.Annals.{Told};
 ghost use Rattle.mt_outside.specs.Leaves.{LeavesArm};
 ghost use Rattle.replies.specs.mt_model.Commands.{commands_of};
 ghost use Rattle.replies.specs.mt_model.Reply.{ok_line};
-ghost use Rattle.replies.specs.Foreseen.{history};
-ghost use Rattle.shared_store.specs.root_store.Stores.{table_at};
-ghost use Rattle.shared_store.specs.Engines.{schema_kept};
-ghost use Rattle.session.specs.Answers.{Answers, Knows, met};
-ghost use Rattle.session.specs.Lapses.{Accounts, Leaves, Never, counts, lapse};
-ghost use Rattle.session.specs.Turns.{AddsParts, ArePartsAt, IsAcceptedAs, IsPartAt, IsRowsFor, MayHaveTurns, NoneFailed, TakesTurn, commands_in_turn, in_turn, part_command, replied};
+ghost use Rattle.replies.specs.mt_model.Session.{AddsNothing};
+ghost use Rattle.shared_store.specs.history_seat.Turns.{IsSession};
+ghost use Rattle.shared_store.specs.Handed.{MayEnter};
+ghost use Rattle.shared_store.specs.Sharing.{schema_there};
+ghost use Rattle.shared_store.specs.Stood.{is_listed, is_told};
+ghost use Rattle.session.specs.Lapses.{Never};
+ghost use Rattle.session.specs.Answers.{AccountsAt, AnswersFrom, KnowsOwn, MayHaveTurnsAt, StaysSession, StaysStopped, TriesCommand, TriesFrom, TurnAt, having, place_of};
+ghost use Rattle.session.specs.Turns.{NoneFailed, commands_in_turn, part_command, replied};
 
-use crate::sealing::{SealedBlock, give_back_part, give_back_parts};
+use crate::sealing::{SealedBlock, give_back_parts};
 use crate::stopped::refused_line;
+use merge_workers::give_back_part;
 use mt_base::NoMemory;
 use mt_outside::{Arm, Dir, Disk};
 use mt_values::{Annals, Name};
 use replies::{Reply, replies_after};
-use shared_store::Engine;
+use shared_store::history_seat::Seat;
 use shared_store::root_commits::Returned;
+use shared_store::{Names, Share, Shared};
 use std::alloc::Global;
+use std::sync::Wait;
 
 /// What the turn of a part is answered.
 #[derive(Drop)]
@@ -36,38 +40,47 @@ pub enum TurnReply {
 /// Adds a part to its table, after so many others of its statement. All memory is taken before the commit. A part that is not given
 /// to the disk goes back to the arm.
 ///
-/// `NoMemory` where an allocation failed; the annals list the same entries, the store keeps the same, and no count of faults rose.
-fn commit_block<F: Dir, R: Arm<Dir = F>, D: Disk<Arm = R>, A: Annals>(
+/// `NoMemory` where an allocation failed; no entry of the session was added, and the arm's count of faults is as it was.
+fn commit_block<W: Wait, F: Dir, R: Arm<Dir = F>, D: Disk<Arm = R>, A: Annals, B: Names>(
+    rt: &W,
     alloc: Global,
-    engine: &mut Engine<F, R, D, A>,
+    shared: &Shared<F, R, D, A, B>,
+    seat: &mut Seat<B>,
+    share: &mut Share<B>,
     arm: &mut R,
     table: &Name,
     accepted: usize,
     sealed: SealedBlock<R::Stage>,
 ) -> Result<TurnReply, NoMemory>
-    requires there { IsSome (table_at engine.old.store table.now) }
-    requires rows { (schema : Schema)
-        → schema_kept (table_at engine.old.store table.now) ≡ Some schema
-        → IsRowsFor schema table.now sealed }
+    requires session { IsSession seat.old }
+    requires own { KnowsOwn seat.old }
+    requires parts { 0 < share.old.parts }
+    requires may { MayEnter B.given B.opening.tables seat.old.list table.now sealed.block
+        sealed.part.sealed sealed.part.loaded }
     requires none_failed { NoneFailed sealed }
 
     // What is answered, and why.
-    ensures answers { (kept : Told) (schema : Schema) → Knows F.files kept engine.old
-        → IsPartAt engine.old.store table.now sealed schema → TakesTurn F.files kept
-        (record { command = part_command schema table.now sealed; before = accepted })
-        (met engine.old engine.new (R.failed arm.new)) result }
-    ensures accepted { IsAcceptedAs engine.old engine.new result }
-    ensures accounts { Accounts
-        (counts (lapse engine.old engine.new (R.failed arm.old) (R.failed arm.new))) Never
-        (replied result) }
+    ensures turn { (schema : Schema)
+        → schema_there B.opening.tables seat.old.list table.now ≡ Some schema
+        → TurnAt B.given B.before B.opening B.ledgers.parts
+        (part_command schema table.now sealed) accepted
+        (having seat.old share.old (R.failed arm.old))
+        (having seat.new share.new (R.failed arm.new)) result }
+    ensures accounts { AccountsAt B.opening B.ledgers.parts
+        (having seat.old share.old (R.failed arm.old))
+        (having seat.new share.new (R.failed arm.new)) Never (replied result) }
 
-    // What the root and the arm are then.
-    ensures leaves { Leaves F.files
-        ((schema : Schema) × IsPartAt engine.old.store table.now sealed schema) engine.old
-        engine.new }
-    ensures adds { AddsParts table.now engine.old.store engine.new.store }
-    ensures schema { schema_kept (table_at engine.new.store table.now)
-        ≡ schema_kept (table_at engine.old.store table.now) }
+    // What the session has then.
+    ensures stays { StaysSession B.opening B.ledgers.parts
+        (having seat.old share.old (R.failed arm.old))
+        (having seat.new share.new (R.failed arm.new)) }
+    ensures stopped { StaysStopped (having seat.old share.old (R.failed arm.old))
+        (having seat.new share.new (R.failed arm.new)) (replied result) }
+    ensures tries { (schema : Schema)
+        → schema_there B.opening.tables seat.old.list table.now ≡ Some schema
+        → TriesCommand (part_command schema table.now sealed)
+        (having seat.old share.old (R.failed arm.old))
+        (having seat.new share.new (R.failed arm.new)) (replied result) }
     ensures arm { LeavesArm R.Arm arm.old arm.new ⊥ }
 {
     let SealedBlock { part, block } = sealed;
@@ -78,7 +91,7 @@ fn commit_block<F: Dir, R: Arm<Dir = F>, D: Disk<Arm = R>, A: Annals>(
             return Err(NoMemory);
         }
     };
-    match engine.insert(alloc, 0, table, part, block) {
+    match shared.insert(rt, alloc, seat, share, table, part, block) {
         Ok(length) => Ok(TurnReply::Accepted(replies.accepted.fill(length))),
         Err(Returned { cause, back }) => {
             give_back_part(arm, back);
@@ -91,40 +104,57 @@ fn commit_block<F: Dir, R: Arm<Dir = F>, D: Disk<Arm = R>, A: Annals>(
 /// Adds the parts of an INSERT to its table, each in a turn of its own, until one is refused. `unchanged` is the reply where there is
 /// no part. What was accepted before a turn that is refused stands. The parts that had no turn go back to the arm.
 ///
-/// `NoMemory` where an allocation failed; the annals list the commands that were accepted before, and no count of faults rose.
-pub fn commit_parts<F: Dir, R: Arm<Dir = F>, D: Disk<Arm = R>, A: Annals>(
+/// `NoMemory` where an allocation failed; what was accepted before stands, and the arm's count of faults is as it was.
+pub fn commit_parts<W: Wait, F: Dir, R: Arm<Dir = F>, D: Disk<Arm = R>, A: Annals, B: Names>(
+    rt: &W,
     alloc: Global,
-    engine: &mut Engine<F, R, D, A>,
+    shared: &Shared<F, R, D, A, B>,
+    seat: &mut Seat<B>,
+    share: &mut Share<B>,
     arm: &mut R,
     table: &Name,
     mut parts: Vec<SealedBlock<R::Stage>>,
     unchanged: Reply,
 ) -> Result<Reply, NoMemory>
-    requires ready { MayHaveTurns engine.old.store table.now parts.items }
-    requires unchanged { unchanged ≡ ok_line engine.old.store.length }
+    requires session { IsSession seat.old }
+    requires own { KnowsOwn seat.old }
+    requires parts { 0 < share.old.parts }
+    requires ready { MayHaveTurnsAt B.given B.opening.tables seat.old.list table.now parts.items }
+    requires unchanged { unchanged ≡ ok_line (place_of B.before seat.old) }
 
     // What is answered, and why.
-    ensures answers { (kept : Told) (schema : Schema) (text : InsertText)
-        → Knows F.files kept engine.old
-        → ArePartsAt engine.old.store table.now parts.items schema
-        → commands_of (history kept) (statement.Insert text)
+    ensures answers { (schema : Schema) (text : InsertText) (from : ℕ)
+        → schema_there B.opening.tables seat.old.list table.now ≡ Some schema
+        → commands_of (B.before ++ seat.old.list) (statement.Insert text)
         ≡ Ok (commands_in_turn schema table.now parts.items)
-        → Answers F.files kept (Ok (statement.Insert text))
-        (met engine.old engine.new (R.failed arm.new)) result }
-    ensures accounts { Accounts
-        (counts (lapse engine.old engine.new (R.failed arm.old) (R.failed arm.new))) Never result }
+        → AddsNothing (B.before ++ seat.old.list) seat.old.number from (place_of B.before seat.old)
+        → AnswersFrom B.given B.before B.opening B.ledgers.parts (Ok (statement.Insert text))
+        seat.old.number from (having seat.new share.new (R.failed arm.new)) result }
+    ensures accounts { AccountsAt B.opening B.ledgers.parts
+        (having seat.old share.old (R.failed arm.old))
+        (having seat.new share.new (R.failed arm.new)) Never result }
 
-    // What the root and the arm are then.
-    ensures leaves { Leaves F.files
-        ((schema : Schema) × ArePartsAt engine.old.store table.now parts.items schema) engine.old
-        engine.new }
-    ensures adds { AddsParts table.now engine.old.store engine.new.store }
+    // What the session has then.
+    ensures stays { StaysSession B.opening B.ledgers.parts
+        (having seat.old share.old (R.failed arm.old))
+        (having seat.new share.new (R.failed arm.new)) }
+    ensures stopped { StaysStopped (having seat.old share.old (R.failed arm.old))
+        (having seat.new share.new (R.failed arm.new)) result }
+    ensures tries { (schema : Schema) (text : InsertText) (from : ℕ)
+        → schema_there B.opening.tables seat.old.list table.now ≡ Some schema
+        → (B.given is_told → B.given is_listed
+        → commands_of (B.before ++ seat.old.list) (statement.Insert text)
+        ≡ Ok (commands_in_turn schema table.now parts.items))
+        → AddsNothing (B.before ++ seat.old.list) seat.old.number from (place_of B.before seat.old)
+        → TriesFrom B.given B.before (Ok (statement.Insert text)) from
+        (having seat.old share.old (R.failed arm.old))
+        (having seat.new share.new (R.failed arm.new)) result }
     ensures arm { LeavesArm R.Arm arm.old arm.new ⊥ }
 {
     let mut reply = unchanged;
     let mut accepted = 0;
     'turns: while let Some(sealed) = parts.pop() {
-        match commit_block(alloc, engine, arm, table, accepted, sealed) {
+        match commit_block(rt, alloc, shared, seat, share, arm, table, accepted, sealed) {
             Ok(TurnReply::Accepted(line)) => reply = line,
             Ok(TurnReply::Refused(line)) => {
                 give_back_parts(arm, parts);

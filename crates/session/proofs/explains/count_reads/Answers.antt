@@ -9,17 +9,14 @@ use Rattle.replies.proofs.MtModelCauses.{query_is_cause, undamaged_line}
 use Rattle.final_fold.proofs.PartHistoryPortions.{portions_stand}
 use Rattle.final_fold.specs.part_history.Parts.{portion_of}
 use Rattle.replies.proofs.Causing.{says_answer, says_script}
-use Rattle.replies.proofs.Ends.{length_history}
 use Rattle.replies.proofs.Refusing.{explain_refused, explains_all}
 use Rattle.replies.proofs.Undamaged.{line_of}
-use Rattle.replies.specs.Foreseen.{history}
 use Rattle.shared_store.specs.root_store.Stores.{core_parts}
 use Rattle.final_fold.specs.select_plan.Plans.{counts_over}
 use Rattle.session.specs.Lapses.{Never}
-use Rattle.session.proofs.Accepting.{refused_as}
+use Rattle.session.proofs.Accounting.{refused_as, accounts_still}
 use Rattle.session.proofs.Asking.{query_is}
 use Rattle.session.proofs.Explaining.{counts_are, explains, plan_is}
-use Rattle.session.proofs.Leaving.{accounts_still}
 use Rattle.session.proofs.SelectStanding.{snap_held, snap_schema}
 use Rattle.session.proofs.explains.count_reads.Goals as goal
 
@@ -31,12 +28,12 @@ query_of-requires g c =
 
 -- what it is refused for
 pub returns-in-Err-Refused-clause-answers : goal.returns-in-Err-Refused-clause-answers
-returns-in-Err-Refused-clause-answers g c = λ kept store stands pinned.
+returns-in-Err-Refused-clause-answers g c = λ h store stands pinned.
     let text = c.args.text.now in
-    let there = snap_schema g.F.Dir.files (history kept) store stands text.table c.args.snap.now pinned in
+    let there = snap_schema g.F.Dir.files h store stands text.table c.args.snap.now pinned in
     let asked = ap (λ (cs : List Column). query_of cs text) (sym c.as_slice.ensures)
     ∙ subst (Refuses (query_of c.as_slice.result.now text)) c.in-Err-Refused.field-0-is c.in-Err-Refused.ensures in
-    IfOk-weaker c.refused.result _ _ (λ line is n. explain_refused n kept line text c.in-Err-Refused.refusal (query_is text (history kept) c.args.snap.now.schema there ∙ asked) is)
+    IfOk-weaker c.refused.result _ _ (λ line is n session. explain_refused n h session text line c.in-Err-Refused.refusal (query_is text h c.args.snap.now.schema there ∙ asked) is)
     (refused_as _ c.in-Err-Refused.refusal c.refused.result c.in-Err-Refused.refusal-is c.refused.ensures)
 
 pub returns-in-Err-Refused-clause-accounts : goal.returns-in-Err-Refused-clause-accounts
@@ -64,23 +61,23 @@ returns-clause-counts g c =
 
 -- the numbers of the plan
 pub returns-clause-answers : goal.returns-clause-answers
-returns-clause-answers g c = λ kept store stands pinned.
+returns-clause-answers g c = λ h store stands pinned.
     let files = g.F.Dir.files in
     let text = c.args.text.now in
     let snap = c.args.snap.now in
     let schema = snap.schema in
     let q = c.in-Ok.query in
-    let there = snap_schema files (history kept) store stands text.table snap pinned in
-    let held = snap_held files (history kept) store stands text.table snap pinned in
+    let there = snap_schema files h store stands text.table snap pinned in
+    let held = snap_held files h store stands text.table snap pinned in
     let asked : query_of schema.columns text ≡ Ok q = ap (λ (cs : List Column). query_of cs text) (sym c.as_slice.ensures) ∙ c.in-Ok.ensures in
     let ps : List Portion = map portion_of (core_parts text.table snap.parts.items held.rows) in
     let counted : c.in-Some.counts ≡ counts_of schema [] text.is_final q.condition ps =
     c.in-Some.ensures ∙ ap counts_over (c.in_ok-planned.ensures ∙ plan_is files schema q.condition text.table text.is_final snap.parts.items held.rows held.hold)
     ∙ counts_are schema [] text.is_final q.condition ps in
-    let place : snap.length ≡ length kept.list = pinned.length_is ∙ (stands.length_is ∙ length_history kept) in
-    IfOk-weaker c.explained.result _ _ (λ reply is n.
-    explains_all n kept reply text (explains (history kept) text schema q ps c.in-Some.counts (length kept.list) reply there asked
-    (portions_stand (history kept) text.table schema there (core_parts text.table snap.parts.items held.rows) held.stand) (stands.unaltered text.table) counted (is ∙ ap (explain_line c.in-Some.counts) place))) c.explained.ensures
+    let place : snap.length ≡ length h = pinned.length_is ∙ stands.length_is in
+    IfOk-weaker c.explained.result _ _ (λ reply is n session.
+    explains_all n h session text reply (explains h text schema q ps c.in-Some.counts (length h) reply there asked
+    (portions_stand h text.table schema there (core_parts text.table snap.parts.items held.rows) held.stand) (stands.unaltered text.table) counted (is ∙ ap (explain_line c.in-Some.counts) place))) c.explained.ensures
 
 pub returns-clause-accounts : goal.returns-clause-accounts
 returns-clause-accounts g c = λ opened disk arm.

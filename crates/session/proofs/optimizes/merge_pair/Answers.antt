@@ -1,54 +1,59 @@
-use Rattle.std.proofs.Common.{Option, Ok, false, subst}
-use Rattle.shared_store.specs.declared.work.Work.{Work}
-use Rattle.shared_store.specs.Works.{TakesPair}
-use Rattle.session.proofs.Lapses.{ended_stays, merges_ended, merges_stays}
-use Rattle.session.proofs.MergeSteps.{pair_beside, pair_ends, pair_merges, work_schema}
-use Rattle.session.proofs.Putting.{some_of_work}
-use Rattle.session.proofs.Taking.{none_of_pair, taken_pair}
-use Rattle.session.proofs.Whole.{beside_same}
+use Rattle.std.proofs.Common.{◌∙◌, ℕ, List, false, inl, inr, refl, sym, ap, subst, arith}
+use Rattle.mt_base.specs.declared.partition.Partition.{Partition}
+use Rattle.shared_store.specs.mutation_queue.Scopes.{InScope}
+use Rattle.shared_store.specs.Tallies.{Tally}
+use Rattle.shared_store.specs.Levels.{any_greatest}
+use Rattle.session.specs.Answers.{IsThat}
+use Rattle.session.proofs.Merges.{merges_after_take, picked_within, merges_as, merges_stay_done, merges_stay_ended, of_none, of_some, tells_of}
 use Rattle.session.proofs.optimizes.merge_pair.Goals as goal
 
+-- there was no room for the replies
 pub returns-in_default-clause-merges : goal.returns-in_default-clause-merges
-returns-in_default-clause-merges g c = merges_ended g.F.Dir.files _ c.args.engine.now (g.R.Arm.failed c.args.arm.now) _ _
+returns-in_default-clause-merges g c = merges_stay_ended g.B.Names.given g.B.Names.opening g.B.Names.ledgers.parts c.args.share.now c.args.share.now (g.R.Arm.failed c.args.arm.now) _ _ _ refl _
 
--- none is taken
+-- nothing was taken up
 pub returns-in-Ok-None-clause-merges : goal.returns-in-Ok-None-clause-merges
-returns-in-Ok-None-clause-merges g c = merges_stays g.F.Dir.files _ c.args.engine.now c.take_merge.new.self (g.R.Arm.failed c.args.arm.now) false (none_of_pair _ _ _ c.in-Ok-None.field-0 c.in-Ok-None.field-0-is c.in-Ok-None.ensures.takes)
+returns-in-Ok-None-clause-merges g c =
+    let none = of_none c.in-Ok-None.field-0 _ c.in-Ok-None.field-0-is c.in-Ok-None.ensures.none in
+    merges_stay_done g.B.Names.given g.B.Names.opening g.B.Names.ledgers.parts c.args.share.now c.take_merge.new.share (g.R.Arm.failed c.args.arm.now) _ _ _ none.0 (inr (none.1, c.args.share.now, none.2))
 
-pub returns-in-Ok-None-clause-beside : goal.returns-in-Ok-None-clause-beside
-returns-in-Ok-None-clause-beside g c = beside_same _ c.args.engine.now c.take_merge.new.self (none_of_pair _ _ _ c.in-Ok-None.field-0 c.in-Ok-None.field-0-is c.in-Ok-None.ensures.takes)
+pub returns-in-Ok-None-clause-out : goal.returns-in-Ok-None-clause-out
+returns-in-Ok-None-clause-out g c = ap (λ (t : Tally). t.out) (of_none c.in-Ok-None.field-0 _ c.in-Ok-None.field-0-is c.in-Ok-None.ensures.none).0
 
 pub returns-in-Err-clause-merges : goal.returns-in-Err-clause-merges
-returns-in-Err-clause-merges g c = ended_stays g.F.Dir.files _ c.args.engine.now c.take_merge.new.self (g.R.Arm.failed c.args.arm.now) _ _ c.in-Err.ensures.takes
+returns-in-Err-clause-merges g c = merges_stay_ended g.B.Names.given g.B.Names.opening g.B.Names.ledgers.parts c.args.share.now c.take_merge.new.share (g.R.Arm.failed c.args.arm.now) _ _ _ c.in-Err.ensures.err _
 
-pub returns-in-Err-clause-beside : goal.returns-in-Err-clause-beside
-returns-in-Err-clause-beside g c = beside_same _ c.args.engine.now c.take_merge.new.self c.in-Err.ensures.takes
+pub returns-in-Err-clause-out : goal.returns-in-Err-clause-out
+returns-in-Err-clause-out g c = ap (λ (t : Tally). t.out) c.in-Err.ensures.err
 
--- a pair is
-pub merge_work-requires-clause-some : goal.merge_work-requires-clause-some
-merge_work-requires-clause-some g c κs within =
-    let takes = subst (λ (o : Option (Work _)). TakesPair c.args.scope c.args.engine.now c.take_merge.new.self (Ok o)) c.in-Ok-Some.field-0-is c.in-Ok-Some.ensures.takes in
-    some_of_work g.F.Dir.files c.args.engine.now c.take_merge.new.self c.in-Ok-Some.work _ (taken_pair g.F.Dir.files c.args.engine.now c.take_merge.new.self c.in-Ok-Some.work c.take_merge.ensures.goes_on c.args.scope takes)
+-- a pair was
+pub merge_work-requires-clause-out : goal.merge_work-requires-clause-out
+merge_work-requires-clause-out g c κs within =
+    let has = ap (λ (t : Tally). t.out) (of_some c.in-Ok-Some.field-0 c.in-Ok-Some.work _ c.in-Ok-Some.field-0-is c.in-Ok-Some.ensures.work) in
+    omega (arith, has)
 
-pub merge_work-requires-clause-schema : goal.merge_work-requires-clause-schema
-merge_work-requires-clause-schema g c κs within =
-    let takes = subst (λ (o : Option (Work _)). TakesPair c.args.scope c.args.engine.now c.take_merge.new.self (Ok o)) c.in-Ok-Some.field-0-is c.in-Ok-Some.ensures.takes in
-    work_schema g.F.Dir.files c.args.engine.now c.take_merge.new.self c.in-Ok-Some.work _ (taken_pair g.F.Dir.files c.args.engine.now c.take_merge.new.self c.in-Ok-Some.work c.take_merge.ensures.goes_on c.args.scope takes)
+pub merge_work-requires-clause-table : goal.merge_work-requires-clause-table
+merge_work-requires-clause-table g c κs within =
+    let of = of_some c.in-Ok-Some.field-0 c.in-Ok-Some.work _ c.in-Ok-Some.field-0-is c.in-Ok-Some.ensures.of in
+    let has = of.1.shows in
+    sym (c.requires.scope c.in-Ok-Some.work.taken.table c.in-Ok-Some.work.taken.partition (picked_within c.args.scope c.in-Ok-Some.work.taken g.B.Names.opening.policy of.1.store has))
+
+pub returns-in-Ok-Some-clause-out : goal.returns-in-Ok-Some-clause-out
+returns-in-Ok-Some-clause-out g c =
+    let has = ap (λ (t : Tally). t.out) (of_some c.in-Ok-Some.field-0 c.in-Ok-Some.work _ c.in-Ok-Some.field-0-is c.in-Ok-Some.ensures.work) in
+    let less = c.merge_work.ensures.out in
+    omega (arith, has, less)
 
 pub returns-in-Ok-Some-clause-merges : goal.returns-in-Ok-Some-clause-merges
 returns-in-Ok-Some-clause-merges g c =
-    let takes = subst (λ (o : Option (Work _)). TakesPair c.args.scope c.args.engine.now c.take_merge.new.self (Ok o)) c.in-Ok-Some.field-0-is c.in-Ok-Some.ensures.takes in
-    pair_merges g.F.Dir.files _ c.args.engine.now c.take_merge.new.self c.merge_work.new.engine c.in-Ok-Some.work c.take_merge.ensures.goes_on c.merge_work.ensures.goes_on c.args.table.now (g.R.Arm.failed c.args.arm.now) (g.R.Arm.failed c.merge_work.new.arm) c.merge_work.result
-    c.merge_work.ensures.ends c.args.scope takes c.requires.of
-
-pub returns-in-Ok-Some-clause-beside : goal.returns-in-Ok-Some-clause-beside
-returns-in-Ok-Some-clause-beside g c =
-    let takes = subst (λ (o : Option (Work _)). TakesPair c.args.scope c.args.engine.now c.take_merge.new.self (Ok o)) c.in-Ok-Some.field-0-is c.in-Ok-Some.ensures.takes in
-    pair_beside g.F.Dir.files _ c.args.engine.now c.take_merge.new.self c.merge_work.new.engine c.in-Ok-Some.work c.take_merge.ensures.goes_on c.merge_work.ensures.goes_on c.args.table.now (g.R.Arm.failed c.args.arm.now) (g.R.Arm.failed c.merge_work.new.arm) c.merge_work.result
-    c.merge_work.ensures.ends c.args.scope takes c.requires.of
-
-pub returns-in-Ok-Some-clause-ends : goal.returns-in-Ok-Some-clause-ends
-returns-in-Ok-Some-clause-ends g c =
-    let takes = subst (λ (o : Option (Work _)). TakesPair c.args.scope c.args.engine.now c.take_merge.new.self (Ok o)) c.in-Ok-Some.field-0-is c.in-Ok-Some.ensures.takes in
-    pair_ends g.F.Dir.files _ c.args.engine.now c.take_merge.new.self c.merge_work.new.engine c.in-Ok-Some.work c.take_merge.ensures.goes_on c.merge_work.ensures.goes_on c.args.table.now (g.R.Arm.failed c.args.arm.now) (g.R.Arm.failed c.merge_work.new.arm) c.merge_work.result
-    c.merge_work.ensures.ends c.args.scope takes c.requires.of
+    let work = c.in-Ok-Some.work.taken in
+    let low = of_some c.in-Ok-Some.field-0 c.in-Ok-Some.work _ c.in-Ok-Some.field-0-is c.in-Ok-Some.ensures.low in
+    let of = of_some c.in-Ok-Some.field-0 c.in-Ok-Some.work _ c.in-Ok-Some.field-0-is c.in-Ok-Some.ensures.of in
+    let taken = of_some c.in-Ok-Some.field-0 c.in-Ok-Some.work _ c.in-Ok-Some.field-0-is c.in-Ok-Some.ensures.work in
+    let inside : InScope c.args.scope work.table work.partition = picked_within c.args.scope work g.B.Names.opening.policy of.1.store of.1.shows in
+    let within : (t : List ℕ) (p : Partition) → IsThat work.table work.partition t p → InScope c.args.scope t p =
+    λ t p is. subst (λ (u : List ℕ). InScope c.args.scope u p) (sym is.0) (subst (λ (q : Partition). InScope c.args.scope work.table q) (sym is.1) inside) in
+    merges_after_take g.B.Names.given g.B.Names.opening g.B.Names.ledgers.parts c.args.share.now c.take_merge.new.share c.merge_work.new.share (g.R.Arm.failed c.args.arm.now) (g.R.Arm.failed c.merge_work.new.arm) false _ _ c.merge_work.result taken
+    (merges_as g.B.Names.given g.B.Names.opening g.B.Names.ledgers.parts c.take_merge.new.share c.merge_work.new.share (g.R.Arm.failed c.args.arm.now) (g.R.Arm.failed c.merge_work.new.arm) (any_greatest work.sources.items) false _ _ _ _ (λ any. sym low ∙ any)
+    (tells_of g.F.Dir.files g.B.Names.given g.B.Room.before g.B.Names.opening g.B.Names.ledgers.parts (IsThat work.table work.partition) (InScope c.args.scope) within)
+    (λ put. inl (record { work = work; these = inside; at = of.0; by = c.args.share.now; taken = of.1; put = put })) c.merge_work.result c.merge_work.ensures.merges)

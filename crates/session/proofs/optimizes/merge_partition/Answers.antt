@@ -1,59 +1,70 @@
-use Rattle.std.proofs.Common.{◌≡◌, Option, Ok, Err, true, refl, subst}
-use Rattle.shared_store.specs.declared.work.TakeFault.{TakeFault}
-use Rattle.shared_store.specs.declared.work.Work.{Work}
-use Rattle.shared_store.specs.Works.{TakesWhole}
-use Rattle.session.proofs.Lapses.{ended_stays, merges_ended, merges_stays}
-use Rattle.session.proofs.MergeSteps.{whole_merges, whole_parts, work_schema}
-use Rattle.session.proofs.Putting.{some_of_work}
-use Rattle.session.proofs.Taking.{busy_never, none_of_whole, taken_whole, want_of_whole}
-use Rattle.session.proofs.Whole.{whole_ended, whole_none}
+use Rattle.std.proofs.Common.{true, inl, inr, refl, sym, ap, ◌∙◌, arith, ℕ, List}
+use Rattle.mt_base.specs.declared.partition.Partition.{Partition}
+use Rattle.shared_store.specs.part_name.PartNames.{part_text}
+use Rattle.shared_store.specs.Tallies.{Tally}
+use Rattle.shared_store.specs.Levels.{any_greatest}
+use Rattle.session.specs.Answers.{IsThat}
+use Rattle.session.proofs.Merges.{merges_after_take, merges_as, merges_busy, merges_stay_done, merges_stay_ended, merges_stay_ended_result, of_none, of_some, tells_of}
 use Rattle.session.proofs.optimizes.merge_partition.Goals as goal
 
+-- there was no room for the replies
 pub returns-in_default-clause-merges : goal.returns-in_default-clause-merges
-returns-in_default-clause-merges g c = merges_ended g.F.Dir.files _ c.args.engine.now (g.R.Arm.failed c.args.arm.now) _ _
+returns-in_default-clause-merges g c = merges_stay_ended g.B.Names.given g.B.Names.opening g.B.Names.ledgers.parts c.args.share.now c.args.share.now (g.R.Arm.failed c.args.arm.now) _ _ _ refl _
 
-pub returns-in_default-clause-whole : goal.returns-in_default-clause-whole
-returns-in_default-clause-whole g c = whole_ended g.row.R-Stage.Denot g.F.Dir.files (g.R.Arm.tells c.args.arm.now ≡ true) c.args.engine.now c.args.engine.now (g.R.Arm.failed c.args.arm.now) (g.R.Arm.failed c.args.arm.now) c.args.table.now c.args.partition _ refl refl
-
--- no part bears a mark
-pub unreachable-requires : goal.unreachable-requires
-unreachable-requires g c =
-    busy_never c.args.table.now c.args.partition c.args.engine.now c.take_all.new.self _ c.requires.free (subst (λ (e : TakeFault). TakesWhole c.args.table.now c.args.partition c.args.engine.now c.take_all.new.self (Err e)) c.in-Err-Busy.field-0-is c.in-Err-Busy.ensures.takes)
-
--- none is taken
+-- nothing was taken up
 pub returns-in-Ok-None-clause-merges : goal.returns-in-Ok-None-clause-merges
-returns-in-Ok-None-clause-merges g c = merges_stays g.F.Dir.files _ c.args.engine.now c.take_all.new.self (g.R.Arm.failed c.args.arm.now) true (none_of_whole _ _ _ _ c.in-Ok-None.field-0 c.in-Ok-None.field-0-is c.in-Ok-None.ensures.takes).1
+returns-in-Ok-None-clause-merges g c =
+    let none = of_none c.in-Ok-None.field-0 _ c.in-Ok-None.field-0-is c.in-Ok-None.ensures.none in
+    merges_stay_done g.B.Names.given g.B.Names.opening g.B.Names.ledgers.parts c.args.share.now c.take_all.new.share (g.R.Arm.failed c.args.arm.now) _ _ _ none.0 (inr (none.1, c.args.share.now, none.2))
 
-pub returns-in-Ok-None-clause-whole : goal.returns-in-Ok-None-clause-whole
-returns-in-Ok-None-clause-whole g c =
-    let none = none_of_whole _ _ _ _ c.in-Ok-None.field-0 c.in-Ok-None.field-0-is c.in-Ok-None.ensures.takes in
-    whole_none g.row.R-Stage.Denot g.F.Dir.files (g.R.Arm.tells c.args.arm.now ≡ true) c.args.engine.now c.take_all.new.self (g.R.Arm.failed c.args.arm.now) (g.R.Arm.failed c.args.arm.now) c.args.table.now c.args.partition none.1 none.0
+pub returns-in-Ok-None-clause-out : goal.returns-in-Ok-None-clause-out
+returns-in-Ok-None-clause-out g c = ap (λ (t : Tally). t.out) (of_none c.in-Ok-None.field-0 _ c.in-Ok-None.field-0-is c.in-Ok-None.ensures.none).0
 
 pub returns-in-Err-NoMemory-clause-merges : goal.returns-in-Err-NoMemory-clause-merges
-returns-in-Err-NoMemory-clause-merges g c = ended_stays g.F.Dir.files _ c.args.engine.now c.take_all.new.self (g.R.Arm.failed c.args.arm.now) _ _ (want_of_whole _ _ _ _ c.in-Err-NoMemory.field-0 c.in-Err-NoMemory.field-0-is c.in-Err-NoMemory.ensures.takes)
+returns-in-Err-NoMemory-clause-merges g c = merges_stay_ended g.B.Names.given g.B.Names.opening g.B.Names.ledgers.parts c.args.share.now c.take_all.new.share (g.R.Arm.failed c.args.arm.now) _ _ _ c.in-Err-NoMemory.ensures.err.0 _
 
-pub returns-in-Err-NoMemory-clause-whole : goal.returns-in-Err-NoMemory-clause-whole
-returns-in-Err-NoMemory-clause-whole g c = whole_ended g.row.R-Stage.Denot g.F.Dir.files (g.R.Arm.tells c.args.arm.now ≡ true) c.args.engine.now c.take_all.new.self (g.R.Arm.failed c.args.arm.now) (g.R.Arm.failed c.args.arm.now) c.args.table.now c.args.partition _ (want_of_whole _ _ _ _ c.in-Err-NoMemory.field-0 c.in-Err-NoMemory.field-0-is c.in-Err-NoMemory.ensures.takes) refl
+pub returns-in-Err-NoMemory-clause-out : goal.returns-in-Err-NoMemory-clause-out
+returns-in-Err-NoMemory-clause-out g c = ap (λ (t : Tally). t.out) c.in-Err-NoMemory.ensures.err.0
 
--- all parts are
-pub merge_work-requires-clause-some : goal.merge_work-requires-clause-some
-merge_work-requires-clause-some g c κs within =
-    let takes = subst (λ (o : Option (Work _)). TakesWhole c.args.table.now c.args.partition c.args.engine.now c.take_all.new.self (Ok o)) c.in-Ok-Some.field-0-is c.in-Ok-Some.ensures.takes in
-    some_of_work g.F.Dir.files c.args.engine.now c.take_all.new.self c.in-Ok-Some.work _ (taken_whole g.F.Dir.files c.args.engine.now c.take_all.new.self c.in-Ok-Some.work c.take_all.ensures.goes_on c.args.table.now c.args.partition takes)
+-- all parts were
+pub merge_work-requires-clause-out : goal.merge_work-requires-clause-out
+merge_work-requires-clause-out g c κs within =
+    let has = ap (λ (t : Tally). t.out) (of_some c.in-Ok-Some.field-0 c.in-Ok-Some.work _ c.in-Ok-Some.field-0-is c.in-Ok-Some.ensures.work) in
+    omega (arith, has)
 
-pub merge_work-requires-clause-schema : goal.merge_work-requires-clause-schema
-merge_work-requires-clause-schema g c κs within =
-    let takes = subst (λ (o : Option (Work _)). TakesWhole c.args.table.now c.args.partition c.args.engine.now c.take_all.new.self (Ok o)) c.in-Ok-Some.field-0-is c.in-Ok-Some.ensures.takes in
-    work_schema g.F.Dir.files c.args.engine.now c.take_all.new.self c.in-Ok-Some.work _ (taken_whole g.F.Dir.files c.args.engine.now c.take_all.new.self c.in-Ok-Some.work c.take_all.ensures.goes_on c.args.table.now c.args.partition takes)
+pub returns-in-Ok-Some-clause-out : goal.returns-in-Ok-Some-clause-out
+returns-in-Ok-Some-clause-out g c =
+    let has = ap (λ (t : Tally). t.out) (of_some c.in-Ok-Some.field-0 c.in-Ok-Some.work _ c.in-Ok-Some.field-0-is c.in-Ok-Some.ensures.work) in
+    let less = c.merge_work.ensures.out in
+    omega (arith, has, less)
+
+pub merge_work-requires-clause-table : goal.merge_work-requires-clause-table
+merge_work-requires-clause-table g c κs within = sym (of_some c.in-Ok-Some.field-0 c.in-Ok-Some.work _ c.in-Ok-Some.field-0-is c.in-Ok-Some.ensures.of).0
 
 pub returns-in-Ok-Some-clause-merges : goal.returns-in-Ok-Some-clause-merges
 returns-in-Ok-Some-clause-merges g c =
-    let takes = subst (λ (o : Option (Work _)). TakesWhole c.args.table.now c.args.partition c.args.engine.now c.take_all.new.self (Ok o)) c.in-Ok-Some.field-0-is c.in-Ok-Some.ensures.takes in
-    whole_merges g.F.Dir.files _ c.args.engine.now c.take_all.new.self c.merge_work.new.engine c.in-Ok-Some.work c.take_all.ensures.goes_on c.merge_work.ensures.goes_on c.args.table.now (g.R.Arm.failed c.args.arm.now) (g.R.Arm.failed c.merge_work.new.arm) c.merge_work.result
-    c.merge_work.ensures.ends c.args.partition takes
+    let work = c.in-Ok-Some.work.taken in
+    let table = c.args.table.now in
+    let of = of_some c.in-Ok-Some.field-0 c.in-Ok-Some.work _ c.in-Ok-Some.field-0-is c.in-Ok-Some.ensures.of in
+    let taken = of_some c.in-Ok-Some.field-0 c.in-Ok-Some.work _ c.in-Ok-Some.field-0-is c.in-Ok-Some.ensures.work in
+    let within : (t : List ℕ) (p : Partition) → IsThat work.table work.partition t p → IsThat table c.args.partition t p = λ t p is. (is.0 ∙ of.0, is.1 ∙ of.1) in
+    merges_after_take g.B.Names.given g.B.Names.opening g.B.Names.ledgers.parts c.args.share.now c.take_all.new.share c.merge_work.new.share (g.R.Arm.failed c.args.arm.now) (g.R.Arm.failed c.merge_work.new.arm) true _ _ c.merge_work.result taken
+    (merges_as g.B.Names.given g.B.Names.opening g.B.Names.ledgers.parts c.take_all.new.share c.merge_work.new.share (g.R.Arm.failed c.args.arm.now) (g.R.Arm.failed c.merge_work.new.arm) (any_greatest work.sources.items) true _ _ _ _ (λ any. refl)
+    (tells_of g.F.Dir.files g.B.Names.given g.B.Room.before g.B.Names.opening g.B.Names.ledgers.parts (IsThat work.table work.partition) (IsThat table c.args.partition) within)
+    (λ put. inl (record { work = work; these = (of.0, of.1); at = of.2; by = c.args.share.now; taken = of.3; put = put })) c.merge_work.result c.merge_work.ensures.merges)
 
-pub returns-in-Ok-Some-clause-whole : goal.returns-in-Ok-Some-clause-whole
-returns-in-Ok-Some-clause-whole g c =
-    let takes = subst (λ (o : Option (Work _)). TakesWhole c.args.table.now c.args.partition c.args.engine.now c.take_all.new.self (Ok o)) c.in-Ok-Some.field-0-is c.in-Ok-Some.ensures.takes in
-    whole_parts g.F.Dir.files _ c.args.engine.now c.take_all.new.self c.merge_work.new.engine c.in-Ok-Some.work c.take_all.ensures.goes_on c.merge_work.ensures.goes_on c.args.table.now (g.R.Arm.failed c.args.arm.now) (g.R.Arm.failed c.merge_work.new.arm) c.merge_work.result
-    c.merge_work.ensures.ends c.args.partition takes
+-- one of them is being merged
+pub returns-clause-merges : goal.returns-clause-merges
+returns-clause-merges g c =
+    merges_busy g.B.Names.given g.B.Names.opening g.B.Names.ledgers.parts c.args.share.now c.take_all.new.share (g.R.Arm.failed c.args.arm.now) true _ _ c.in-Err-Busy.ensures.err.0 (part_text c.in-Err-Busy.part)
+    (λ whole. let is = sym c.in-Err-Busy.field-0-is ∙ c.in-Err-Busy.ensures.alone whole c.requires.out in cc) refl c.in_ok-reply-in-Err-Busy.reply c.in_ok-reply-in-Err-Busy.ensures
+
+pub returns-clause-out : goal.returns-clause-out
+returns-clause-out g c = ap (λ (t : Tally). t.out) c.in-Err-Busy.ensures.err.0
+
+pub returns-in_err-reply-in-Err-Busy-clause-merges : goal.returns-in_err-reply-in-Err-Busy-clause-merges
+returns-in_err-reply-in-Err-Busy-clause-merges g c =
+    merges_stay_ended_result g.B.Names.given g.B.Names.opening g.B.Names.ledgers.parts c.args.share.now c.take_all.new.share (g.R.Arm.failed c.args.arm.now) true _ _ c.in-Err-Busy.ensures.err.0 c.from_residual.result c.from_residual.ensures.0
+
+pub returns-in_err-reply-in-Err-Busy-clause-out : goal.returns-in_err-reply-in-Err-Busy-clause-out
+returns-in_err-reply-in-Err-Busy-clause-out g c = ap (λ (t : Tally). t.out) c.in-Err-Busy.ensures.err.0

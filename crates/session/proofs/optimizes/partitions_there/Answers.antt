@@ -1,13 +1,23 @@
-use Rattle.std.proofs.Common.{◌∙◌, sym}
+use Rattle.std.proofs.Common.{◌∙◌, not, is_some, ap, sym, subst}
 use Rattle.std.proofs.lemmas.Bool.{false≢true}
+use Rattle.shared_store.specs.Handed.{GivesSchema}
+use Rattle.session.proofs.optimizes.partitions_there.Goals.{else-text-via-then-text+else-is_none, else-text-via-else-text}
 use Rattle.session.proofs.optimizes.partitions_there.Goals as goal
 
-pub returns-then-whole-clause-found : goal.returns-then-whole-clause-found
-returns-then-whole-clause-found g c = λ _. c.listed_partitions.ensures.found
-
 -- no part is copied
-pub returns-clause-none : goal.returns-clause-none
-returns-clause-none g c = c.none_listed.ensures ∙ c.has_table.ensures
+pub returns-clause-there : goal.returns-clause-there
+returns-clause-there g c =
+    let gives = subst (GivesSchema g.B.Names.given g.B.Room.before g.B.Names.opening.tables c.schema.new.seat.list c.args.text.now.table) c.in-Some.is c.in_ok-found.ensures.schema in
+    (gives.2, ap is_some (sym gives.0))
 
-pub returns-clause-found : goal.returns-clause-found
-returns-clause-found g c = λ is. absurd (false≢true (sym c.if-whole.false ∙ is))
+pub returns-in_default-clause-there : goal.returns-in_default-clause-there
+returns-in_default-clause-there g c =
+    let gives = subst (GivesSchema g.B.Names.given g.B.Room.before g.B.Names.opening.tables c.schema.new.seat.list c.args.text.now.table) c.in_default.is c.in_ok-found.ensures.schema in
+    (gives.2, ap is_some (sym gives.0))
+
+pub returns-clause-listed : goal.returns-clause-listed
+returns-clause-listed g c = λ whole none.
+    elim c.else-text.branch [
+      | else-text-via-then-text+else-is_none w ↦ absurd (false≢true (sym (ap is_some none) ∙ w.is_none.ensures ∙ ap not w.if-is_none.false))
+      | else-text-via-else-text w ↦ absurd (false≢true (sym w.if-text.false ∙ whole))
+    ]

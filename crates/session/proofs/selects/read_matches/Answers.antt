@@ -20,20 +20,19 @@ use Rattle.final_fold.specs.select_plan.Plans.{planned}
 use Rattle.final_fold.specs.Matches.{matching}
 use Rattle.final_fold.specs.Scans.{ArePlacesOf}
 use Rattle.final_fold.proofs.Picking.{shown_within}
-use Rattle.replies.specs.Foreseen.{history}
 use Rattle.replies.specs.mt_model.declared.refusal.Refusal.TheVariants as refusal
 use Rattle.replies.specs.mt_model.Refusals.{is_damage}
 use Rattle.replies.specs.Lines.{IsLineOfStage, Printed}
 use Rattle.replies.proofs.Causing.{says_answer, says_damage, says_failed}
-use Rattle.replies.proofs.Counting.{line_of_stage}
-use Rattle.replies.proofs.Ends.{added_nothing, length_history, whole_front}
+use Rattle.replies.proofs.Counting.{some_rose}
+use Rattle.replies.proofs.Ends.{adds_nothing, all_front}
 use Rattle.replies.proofs.Refusing.{select_failed}
 use Rattle.session.proofs.Asking.{query_is, query_places, tests_below}
 use Rattle.session.proofs.Damaged.{each_holds, tells_of_damage}
 use Rattle.session.proofs.Picking.{rows_shown}
 use Rattle.session.specs.Lapses.{still}
 use Rattle.session.specs.Selects.{TellsOfDamage}
-use Rattle.session.proofs.Leaving.{accounts_line, in_any_case, never_by}
+use Rattle.session.proofs.Accounting.{accounts_line, in_any_case, never_by}
 use Rattle.session.proofs.Selecting.{PrintsOf, prints_of, read_below, selected_below, selects}
 use Rattle.session.proofs.SelectStanding.{snap_held, snap_schema}
 use Rattle.session.proofs.Undamaged.{read_sound}
@@ -114,13 +113,13 @@ print-requires-clause-shown g c =
 
 -- what is seen and meets the condition
 pub returns-in-Ok-clause-answers : goal.returns-in-Ok-clause-answers
-returns-in-Ok-clause-answers g c = λ kept store stands pinned.
+returns-in-Ok-clause-answers g c = λ h store stands pinned.
     let files = g.R.Dir.Dir.files in
     let text = c.args.text.now in
     let snap = c.args.snap.now in
     let schema = snap.schema in
     let q = c.args.query.now in
-    let there = snap_schema files (history kept) store stands text.table snap pinned in
+    let there = snap_schema files h store stands text.table snap pinned in
     let picked = c.in_ok-picked.picked in
     let read = c.as_slice-2.result.now in
     let within = read_below schema text.columns q.places picked.read.items read (query_places schema.columns text q c.requires.query)
@@ -129,7 +128,7 @@ returns-in-Ok-clause-answers g c = λ kept store stands pinned.
     let items = c.in_ok-columns.columns.items in
     let new = c.add_seen.new.columns in
     let empty = ap (map (λ (x : Cells). x.values)) lent ∙ c.in_ok-columns.ensures.empty in
-    let seen = c.in-Ok.ensures.seen.values (history kept) store text.table stands pinned empty in
+    let seen = c.in-Ok.ensures.seen.values h store text.table stands pinned empty in
     let rows = matching q.condition seen.rows in
     let many : length new ≡ length items =
     sym (length-map new (λ (x : Cells). x.col_type)) ∙ ap length c.in-Ok.ensures.seen.types ∙ length-map c.deref_mut.result.now (λ (x : Cells). x.col_type) ∙ ap length lent in
@@ -142,14 +141,14 @@ returns-in-Ok-clause-answers g c = λ kept store stands pinned.
     let shown_is : map (slice_get read) shown ≡ map Some q.places =
     ap₂ (λ (r s : List ℕ). map (slice_get r) s) c.as_slice-2.ensures.value c.as_slice-in-Ok.ensures.value ∙ c.in_ok-picked.ensures.shown ∙ ap (map Some) c.as_slice.ensures in
     let shown_are = ap (map (key_of shown)) rows_are ∙ rows_shown rows read shown q.places have shown_is in
-    let place : snap.length ≡ length kept.list = pinned.length_is ∙ (stands.length_is ∙ length_history kept) in
+    let place : snap.length ≡ length h = pinned.length_is ∙ stands.length_is in
     IfOk-weaker c.print.result _ _ (λ reply is.
     let printed = subst (λ (cs : List Cells). Printed (grid_of cs c.in-Ok.rows) shown snap.length reply) back is in
     let prints = prints_of q seen.rows (grid_of new c.in-Ok.rows) shown snap.length reply shown_are printed in
     record {
-      takes = λ n disk full f. inl (
-        selects (history kept) text schema q seen.rows (length kept.list) reply (whole_front kept) there c.requires.query seen.seen (subst (λ (m : ℕ). PrintsOf q seen.rows m reply) place prints),
-        added_nothing kept,
+      takes = λ n session f. inl (
+        selects h text schema q seen.rows (length h) reply (all_front h) there c.requires.query seen.seen (subst (λ (m : ℕ). PrintsOf q seen.rows m reply) place prints),
+        adds_nothing h session,
       );
       plain = λ plain. inr (snap, pinned, record { query = q; asked = c.requires.query; rows = seen.rows; are = seen.plain plain; lines = prints.lines; prints = prints.prints; reply_is = prints.reply_is });
     }) c.print.ensures
@@ -170,14 +169,14 @@ returns-in-Err-default-NoMemory-clause-accounts g c = λ opened disk.
 
 -- the arm failed
 pub returns-in-Err-default-Fault-clause-answers : goal.returns-in-Err-default-Fault-clause-answers
-returns-in-Err-default-Fault-clause-answers g c = λ kept store stands pinned.
+returns-in-Err-default-Fault-clause-answers g c = λ h store stands pinned.
     let text = c.args.text.now in
     let schema = c.args.snap.now.schema in
-    let there = snap_schema g.R.Dir.Dir.files (history kept) store stands text.table c.args.snap.now pinned in
+    let there = snap_schema g.R.Dir.Dir.files h store stands text.table c.args.snap.now pinned in
     let rose = c.in-Err-default-Fault.ensures.arm.fault c.in-Err-default-Fault.field-0-1-is in
     IfOk-weaker c.stage_line.result _ _ (λ line is. record {
-      takes = λ n disk full f. select_failed n kept line text c.args.query.now (query_is text (history kept) schema there ∙ c.requires.query)
-          (line_of_stage store.opened disk (g.R.Arm.failed c.add_seen.new.arm) (g.R.Arm.failed c.args.arm.now) failure.Fault line n is (λ same. rose) f);
+      takes = λ n session f. select_failed n h session text line c.args.query.now (query_is text h schema there ∙ c.requires.query)
+          (is, f (some_rose (g.R.Arm.failed c.args.arm.now) (g.R.Arm.failed c.add_seen.new.arm) rose));
       plain = λ _. inl (refusal.Failed, is);
     }) c.stage_line.ensures.line
 
@@ -192,10 +191,10 @@ returns-in-Err-default-Fault-clause-accounts g c = λ opened disk.
 
 -- a part that stands for the table is not damaged
 pub returns-clause-answers : goal.returns-clause-answers
-returns-clause-answers g c = λ kept store stands pinned.
+returns-clause-answers g c = λ h store stands pinned.
     let files = g.R.Dir.Dir.files in
     let snap = c.args.snap.now in
-    let held = snap_held files (history kept) store stands c.args.text.now.table snap pinned in
+    let held = snap_held files h store stands c.args.text.now.table snap pinned in
     absurd (subst IsNoDamage c.in-Err-default-Damaged.field-0-1-is
     (read_sound files snap c.args.text.now.is_final c.args.query.now.condition _ _ refl c.requires.table (each_holds files snap.schema snap.parts.items held.rows held.hold) c.in-Err-default-Damaged.ensures.fault))
 

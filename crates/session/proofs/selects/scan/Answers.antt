@@ -3,27 +3,25 @@ use Rattle.std.proofs.Common.{◌≡◌, ◌∙◌, List, length, inl, sym, ap, 
 use Rattle.mt_base.specs.Stops.{Refuses}
 use Rattle.mt_values.specs.declared.schema.Column.{Column}
 use Rattle.replies.specs.mt_model.Queries.{query_of}
-use Rattle.replies.specs.Foreseen.{history}
 use Rattle.replies.specs.mt_model.Refusals.{refusal_line}
 use Rattle.replies.proofs.MtModelCauses.{query_is_cause, undamaged_line}
 use Rattle.replies.proofs.Causing.{says_script}
 use Rattle.replies.proofs.Undamaged.{line_of}
 use Rattle.replies.proofs.Refusing.{select_refused}
 use Rattle.session.specs.Selects.{TellsOfDamage}
-use Rattle.session.proofs.Accepting.{refused_as}
+use Rattle.session.proofs.Accounting.{refused_as, accounts_still}
 use Rattle.session.proofs.Asking.{query_is}
-use Rattle.session.proofs.Leaving.{accounts_still}
 use Rattle.session.proofs.SelectStanding.{snap_schema}
 use Rattle.session.proofs.selects.scan.Goals as goal
 
 -- what it is refused for
 pub returns-in-Err-Refused-clause-answers : goal.returns-in-Err-Refused-clause-answers
-returns-in-Err-Refused-clause-answers g c = λ kept store stands pinned.
-    let there = snap_schema g.R.Dir.Dir.files (history kept) store stands c.args.text.now.table c.args.snap.now pinned in
+returns-in-Err-Refused-clause-answers g c = λ h store stands pinned.
+    let there = snap_schema g.R.Dir.Dir.files h store stands c.args.text.now.table c.args.snap.now pinned in
     let chosen = ap (λ (cs : List Column). query_of cs c.args.text.now) (sym c.as_slice.ensures)
     ∙ subst (Refuses (query_of c.as_slice.result.now c.args.text.now)) c.in-Err-Refused.field-0-is c.in-Err-Refused.ensures in
     IfOk-weaker c.refused.result _ _ (λ line is. record {
-      takes = λ n disk full f. select_refused n kept line c.args.text.now c.in-Err-Refused.refusal (query_is c.args.text.now (history kept) c.args.snap.now.schema there ∙ chosen) is;
+      takes = λ n session f. select_refused n h session c.args.text.now line c.in-Err-Refused.refusal (query_is c.args.text.now h c.args.snap.now.schema there ∙ chosen) is;
       plain = λ _. inl (c.in-Err-Refused.refusal, is);
     }) (refused_as _ c.in-Err-Refused.refusal c.refused.result c.in-Err-Refused.refusal-is c.refused.ensures)
 

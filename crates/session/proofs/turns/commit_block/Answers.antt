@@ -1,137 +1,166 @@
-use Rattle.std.proofs.Common.{Ok, ap, ◌∙◌, refl}
-use Rattle.replies.specs.mt_model.Reply.{ok_line}
-use Rattle.shared_store.specs.root_store.Stores.{table_at}
-use Rattle.shared_store.specs.Engines.{schema_kept}
-use Rattle.session.proofs.Leaving.{arm_stays}
-use Rattle.session.proofs.Adding.{adds_itself}
-use Rattle.session.proofs.Turning.{found_table, part_accepted, part_adds, part_answer_accounts, part_ended, part_ended_accounts, part_leaves, part_not_begun, part_refusal_accounts, part_refused, part_reply, part_returned, part_schema}
+use Rattle.std.proofs.Common.{Some, inl, inr, refl, ap, arith}
+use Rattle.shared_store.specs.part_writer.declared.writing.SealedPart.{SealedPart}
+use Rattle.shared_store.specs.Tallies.{Tally}
+use Rattle.session.specs.Lapses.{Never}
+use Rattle.session.specs.Answers.{having}
+use Rattle.session.proofs.Accounting.{arm_stays}
+use Rattle.session.proofs.Answering.{accounts_added, accounts_ended, accounts_refused, accounts_without, added_stays, disk_alone, looked_stays, no_rise, stays_itself}
+use Rattle.session.proofs.Commits.{back_calm, block_accepted, block_counts, block_refused, turn_ended}
+use Rattle.session.proofs.OnceStopped.{ended_stopped, enter_not_failed, enter_stopped, unless_disk}
+use Rattle.session.proofs.Tries.{block_tries, block_tries_ended}
 use Rattle.session.proofs.turns.commit_block.Goals as goal
 
-pub insert-requires-clause-rows : goal.insert-requires-clause-rows
-insert-requires-clause-rows g c κs within = λ t there. c.requires.rows t.schema (ap schema_kept there)
-
 -- memory ran out before its turn
-pub returns-in-Err-clause-answers : goal.returns-in-Err-clause-answers
-returns-in-Err-clause-answers g c = λ kept schema knows at. part_not_begun g.F.Dir.files kept c.args.engine.now (g.R.Arm.failed c.give_back_part.new.arm) knows c.args.table.now c.args.sealed c.args.accepted schema
+pub returns-in-Err-clause-turn : goal.returns-in-Err-clause-turn
+returns-in-Err-clause-turn g c = λ schema there. inl refl
 
-pub returns-in-Err-clause-adds : goal.returns-in-Err-clause-adds
-returns-in-Err-clause-adds g c = adds_itself c.args.table.now c.args.engine.now.store
+pub returns-in-Err-clause-accounts : goal.returns-in-Err-clause-accounts
+returns-in-Err-clause-accounts g c =
+    let calm = c.give_back_part.ensures.none_failed c.requires.none_failed in
+    let seat = c.args.seat.now in
+    let share = c.args.share.now in
+    accounts_without g.B.Names.opening g.B.Names.ledgers.parts (having seat share (g.R.Arm.failed c.args.arm.now)) (having seat share (g.R.Arm.failed c.give_back_part.new.arm)) Never (omega (arith, calm)) _ calm refl
+
+pub returns-in-Err-clause-stays : goal.returns-in-Err-clause-stays
+returns-in-Err-clause-stays g c =
+    let calm = c.give_back_part.ensures.none_failed c.requires.none_failed in
+    stays_itself g.B.Names.opening g.B.Names.ledgers.parts c.args.seat.now c.args.share.now (g.R.Arm.failed c.args.arm.now) (g.R.Arm.failed c.give_back_part.new.arm) c.requires.session c.requires.own (omega (arith, calm))
 
 pub returns-in-Err-clause-arm : goal.returns-in-Err-clause-arm
 returns-in-Err-clause-arm g c = arm_stays g.R.Arm c.args.arm.now c.give_back_part.new.arm c.give_back_part.ensures.tells (c.give_back_part.ensures.none_failed c.requires.none_failed)
 
 -- the part was added
-pub returns-in-Ok-insert-clause-arm : goal.returns-in-Ok-insert-clause-arm
-returns-in-Ok-insert-clause-arm g c = arm_stays g.R.Arm c.args.arm.now c.args.arm.now refl refl
-
-pub returns-in-Ok-insert-clause-answers : goal.returns-in-Ok-insert-clause-answers
-returns-in-Ok-insert-clause-answers g c = λ kept schema knows at.
-    let found = found_table (table_at c.args.engine.now.store c.args.table.now) c.requires.there in
-    part_accepted g.F.Dir.files c.args.engine.now c.insert.new.self c.args.table.now found.0 c.args.sealed _ (c.in-Ok-insert.ensures.commits found.0 found.1) kept knows schema at c.args.accepted (g.R.Arm.failed c.args.arm.now)
-
-pub returns-in-Ok-insert-clause-accepted : goal.returns-in-Ok-insert-clause-accepted
-returns-in-Ok-insert-clause-accepted g c =
-    let found = found_table (table_at c.args.engine.now.store c.args.table.now) c.requires.there in
-    part_reply g.F.Dir.files c.args.engine.now c.insert.new.self c.args.table.now found.0 c.args.sealed _ (c.in-Ok-insert.ensures.commits found.0 found.1) c.fill.result
-    (c.fill.ensures ∙ ap ok_line (c.in-Ok-insert.ensures.length ∙ (c.in-Ok-insert.ensures.commits found.0 found.1).enters.enters.length_is)) c.requires.none_failed
+pub returns-in-Ok-insert-clause-turn : goal.returns-in-Ok-insert-clause-turn
+returns-in-Ok-insert-clause-turn g c = λ schema there.
+    let e = c.in-Ok-insert.ensures in
+    let arm = g.R.Arm.failed c.args.arm.now in
+    block_accepted g.F.Dir.files g.B.Names.given g.B.Room.before g.B.Names.opening g.B.Names.ledgers.parts e.turn.0 c.args.table.now schema c.args.sealed.block c.args.accepted c.args.seat.now c.insert.new.seat c.args.share.now c.insert.new.share arm arm c.args.sealed.part.sealed.failed there
+    c.in-Ok-insert.length e.turn.1 c.fill.result c.fill.ensures
 
 pub returns-in-Ok-insert-clause-accounts : goal.returns-in-Ok-insert-clause-accounts
 returns-in-Ok-insert-clause-accounts g c =
-    let found = found_table (table_at c.args.engine.now.store c.args.table.now) c.requires.there in
-    part_answer_accounts g.F.Dir.files c.args.engine.now c.insert.new.self c.args.table.now found.0 c.args.sealed _ (c.in-Ok-insert.ensures.commits found.0 found.1) c.fill.result
-    (c.fill.ensures ∙ ap ok_line (c.in-Ok-insert.ensures.length ∙ (c.in-Ok-insert.ensures.commits found.0 found.1).enters.enters.length_is)) (g.R.Arm.failed c.args.arm.now)
+    let arm = g.R.Arm.failed c.args.arm.now in
+    let turn = c.in-Ok-insert.ensures.turn.1.turn in
+    accounts_added g.B.Names.opening g.B.Names.ledgers.parts (having c.args.seat.now c.args.share.now arm) (having c.insert.new.seat c.insert.new.share arm) Never (omega arith) _ _ _ turn.counted c.requires.none_failed c.fill.result c.in-Ok-insert.length c.fill.ensures
 
-pub returns-in-Ok-insert-clause-adds : goal.returns-in-Ok-insert-clause-adds
-returns-in-Ok-insert-clause-adds g c =
-    let found = found_table (table_at c.args.engine.now.store c.args.table.now) c.requires.there in
-    part_adds g.F.Dir.files c.args.engine.now c.insert.new.self c.args.table.now found.0 c.args.sealed _ (c.insert.ensures.commits found.0 found.1)
+pub returns-in-Ok-insert-clause-stays : goal.returns-in-Ok-insert-clause-stays
+returns-in-Ok-insert-clause-stays g c =
+    let e = c.in-Ok-insert.ensures in
+    let arm = g.R.Arm.failed c.args.arm.now in
+    let share = c.args.share.now in
+    added_stays g.B.Names.opening g.B.Names.ledgers.parts share c.insert.new.share arm arm 0 _ e.turn.1.turn.counted.rise e.turn.1.turn.counted.counted (omega arith) (omega arith) c.args.seat.now c.insert.new.seat e.turn.0 _ refl c.requires.own e.turn.1.seat.0
 
-pub returns-in-Ok-insert-clause-leaves : goal.returns-in-Ok-insert-clause-leaves
-returns-in-Ok-insert-clause-leaves g c =
-    let found = found_table (table_at c.args.engine.now.store c.args.table.now) c.requires.there in
-    part_leaves g.F.Dir.files c.args.engine.now c.insert.new.self c.args.table.now found.0 c.args.sealed _ (c.insert.ensures.commits found.0 found.1) c.insert.ensures.goes_on
-
-pub returns-in-Ok-insert-clause-schema : goal.returns-in-Ok-insert-clause-schema
-returns-in-Ok-insert-clause-schema g c =
-    let found = found_table (table_at c.args.engine.now.store c.args.table.now) c.requires.there in
-    part_schema g.F.Dir.files c.args.engine.now c.insert.new.self c.args.table.now found.0 c.args.sealed _ (c.insert.ensures.commits found.0 found.1)
+pub returns-in-Ok-insert-clause-arm : goal.returns-in-Ok-insert-clause-arm
+returns-in-Ok-insert-clause-arm g c = arm_stays g.R.Arm c.args.arm.now c.args.arm.now refl refl
 
 -- it was not
-pub returns-in_ok-reply-in-Err-insert-clause-answers : goal.returns-in_ok-reply-in-Err-insert-clause-answers
-returns-in_ok-reply-in-Err-insert-clause-answers g c = λ kept schema knows at.
-    let found = found_table (table_at c.args.engine.now.store c.args.table.now) c.requires.there in
-    part_refused g.F.Dir.files c.args.engine.now c.insert.new.self c.args.table.now found.0 c.args.sealed c.in-Err-insert.field-0 (c.in-Err-insert.ensures.commits found.0 found.1) kept knows schema at c.args.accepted
-    (g.R.Arm.failed c.give_back_part-in-Err-insert.new.arm) c.in_ok-reply-in-Err-insert.reply c.in_ok-reply-in-Err-insert.ensures.line
+pub returns-in_ok-reply-in-Err-insert-clause-turn : goal.returns-in_ok-reply-in-Err-insert-clause-turn
+returns-in_ok-reply-in-Err-insert-clause-turn g c = λ schema there.
+    let e = c.in-Err-insert.ensures in
+    let share = c.args.share.now in
+    block_refused g.F.Dir.files g.B.Names.given g.B.Room.before g.B.Names.opening g.B.Names.ledgers.parts e.turn.0 c.args.table.now schema c.args.sealed.block c.args.accepted c.args.seat.now c.insert.new.seat share c.insert.new.share
+    (g.R.Arm.failed c.args.arm.now) (g.R.Arm.failed c.give_back_part-in-Err-insert.new.arm) c.args.sealed.part.sealed.failed there c.in-Err-insert.field-0 e.turn.1 c.in_ok-reply-in-Err-insert.reply c.in_ok-reply-in-Err-insert.ensures.line
 
 pub returns-in_ok-reply-in-Err-insert-clause-accounts : goal.returns-in_ok-reply-in-Err-insert-clause-accounts
 returns-in_ok-reply-in-Err-insert-clause-accounts g c =
-    let found = found_table (table_at c.args.engine.now.store c.args.table.now) c.requires.there in
-    let d = c.in-Err-insert.ensures.commits found.0 found.1 in
-    let files = g.F.Dir.files in
-    let was = c.args.engine.now in
-    let now = c.insert.new.self in
-    let s = c.args.sealed in
-    let back = part_returned files was now c.args.table.now found.0 s c.in-Err-insert.field-0 d c.requires.none_failed in
-    part_refusal_accounts files was now c.args.table.now found.0 s c.in-Err-insert.field-0 d c.requires.none_failed c.args.accepted (Ok c.in_ok-reply-in-Err-insert.reply) c.in_ok-reply-in-Err-insert.ensures.line tt
-    (g.R.Arm.failed c.args.arm.now) (g.R.Arm.failed c.give_back_part-in-Err-insert.new.arm) (c.give_back_part-in-Err-insert.ensures.none_failed back)
+    let e = c.in-Err-insert.ensures in
+    let r = c.in-Err-insert.field-0 in
+    let back = back_calm (λ (p : SealedPart g.row.R-Stage.Denot). p.sealed.failed) c.args.sealed.part r.back e.back.same c.requires.none_failed in
+    let calm = c.give_back_part-in-Err-insert.ensures.none_failed back in
+    let may = c.requires.may in
+    let share = c.args.share.now in
+    accounts_refused g.B.Names.opening g.B.Names.ledgers.parts (having c.args.seat.now c.args.share.now (g.R.Arm.failed c.args.arm.now)) (having c.insert.new.seat c.insert.new.share (g.R.Arm.failed c.give_back_part-in-Err-insert.new.arm)) Never (omega (arith, calm))
+    c.args.accepted c.args.table.now r.cause c.in_ok-reply-in-Err-insert.reply c.in_ok-reply-in-Err-insert.ensures.line (ap (λ (t : Tally). t.stops) e.turn.1.turn.counted.counted)
+    (block_counts g.F.Dir.files g.B.Names.given g.B.Room.before g.B.Names.opening g.B.Names.ledgers.parts e.turn.0 c.args.table.now may.schema c.args.sealed.block c.args.accepted c.args.seat.now c.insert.new.seat share c.insert.new.share
+    (g.R.Arm.failed c.args.arm.now) (g.R.Arm.failed c.give_back_part-in-Err-insert.new.arm) c.args.sealed.part.sealed.failed may.there r e.turn.1 c.requires.none_failed c.in_ok-reply-in-Err-insert.reply c.in_ok-reply-in-Err-insert.ensures.line)
 
-pub returns-in_ok-reply-in-Err-insert-clause-adds : goal.returns-in_ok-reply-in-Err-insert-clause-adds
-returns-in_ok-reply-in-Err-insert-clause-adds g c =
-    let found = found_table (table_at c.args.engine.now.store c.args.table.now) c.requires.there in
-    part_adds g.F.Dir.files c.args.engine.now c.insert.new.self c.args.table.now found.0 c.args.sealed _ (c.insert.ensures.commits found.0 found.1)
-
-pub returns-in_ok-reply-in-Err-insert-clause-leaves : goal.returns-in_ok-reply-in-Err-insert-clause-leaves
-returns-in_ok-reply-in-Err-insert-clause-leaves g c =
-    let found = found_table (table_at c.args.engine.now.store c.args.table.now) c.requires.there in
-    part_leaves g.F.Dir.files c.args.engine.now c.insert.new.self c.args.table.now found.0 c.args.sealed _ (c.insert.ensures.commits found.0 found.1) c.insert.ensures.goes_on
-
-pub returns-in_ok-reply-in-Err-insert-clause-schema : goal.returns-in_ok-reply-in-Err-insert-clause-schema
-returns-in_ok-reply-in-Err-insert-clause-schema g c =
-    let found = found_table (table_at c.args.engine.now.store c.args.table.now) c.requires.there in
-    part_schema g.F.Dir.files c.args.engine.now c.insert.new.self c.args.table.now found.0 c.args.sealed _ (c.insert.ensures.commits found.0 found.1)
+pub returns-in_ok-reply-in-Err-insert-clause-stays : goal.returns-in_ok-reply-in-Err-insert-clause-stays
+returns-in_ok-reply-in-Err-insert-clause-stays g c =
+    let e = c.in-Err-insert.ensures in
+    let r = c.in-Err-insert.field-0 in
+    let back = back_calm (λ (p : SealedPart g.row.R-Stage.Denot). p.sealed.failed) c.args.sealed.part r.back e.back.same c.requires.none_failed in
+    let calm = c.give_back_part-in-Err-insert.ensures.none_failed back in
+    let share = c.args.share.now in
+    looked_stays g.B.Names.opening g.B.Names.ledgers.parts share c.insert.new.share (g.R.Arm.failed c.args.arm.now) (g.R.Arm.failed c.give_back_part-in-Err-insert.new.arm) _ _ e.turn.1.turn.counted.rise e.turn.1.turn.counted.counted (omega arith) (omega (arith, calm))
+    c.args.seat.now c.insert.new.seat e.turn.0 e.turn.1.seat
 
 pub returns-in_ok-reply-in-Err-insert-clause-arm : goal.returns-in_ok-reply-in-Err-insert-clause-arm
 returns-in_ok-reply-in-Err-insert-clause-arm g c =
-    let found = found_table (table_at c.args.engine.now.store c.args.table.now) c.requires.there in
-    arm_stays g.R.Arm c.args.arm.now c.give_back_part-in-Err-insert.new.arm c.give_back_part-in-Err-insert.ensures.tells (c.give_back_part-in-Err-insert.ensures.none_failed
-    (part_returned g.F.Dir.files c.args.engine.now c.insert.new.self c.args.table.now found.0 c.args.sealed c.in-Err-insert.field-0 (c.in-Err-insert.ensures.commits found.0 found.1) c.requires.none_failed))
+    let back = back_calm (λ (p : SealedPart g.row.R-Stage.Denot). p.sealed.failed) c.args.sealed.part c.in-Err-insert.field-0.back c.in-Err-insert.ensures.back.same c.requires.none_failed in
+    arm_stays g.R.Arm c.args.arm.now c.give_back_part-in-Err-insert.new.arm c.give_back_part-in-Err-insert.ensures.tells (c.give_back_part-in-Err-insert.ensures.none_failed back)
 
 -- memory ran out
-pub returns-in_err-reply-in-Err-insert-clause-answers : goal.returns-in_err-reply-in-Err-insert-clause-answers
-returns-in_err-reply-in-Err-insert-clause-answers g c = λ kept schema knows at.
-    let found = found_table (table_at c.args.engine.now.store c.args.table.now) c.requires.there in
-    part_ended g.F.Dir.files c.args.engine.now c.insert.new.self c.args.table.now found.0 c.args.sealed c.in-Err-insert.field-0 (c.in-Err-insert.ensures.commits found.0 found.1) kept knows schema at c.args.accepted
-    (g.R.Arm.failed c.give_back_part-in-Err-insert.new.arm) c.in_err-reply-in-Err-insert.ensures.disk c.from_residual.result c.from_residual.ensures.0
+pub returns-in_err-reply-in-Err-insert-clause-turn : goal.returns-in_err-reply-in-Err-insert-clause-turn
+returns-in_err-reply-in-Err-insert-clause-turn g c = λ schema there.
+    turn_ended g.B.Names.given g.B.Room.before g.B.Names.opening g.B.Names.ledgers.parts _ c.args.accepted
+    (having c.args.seat.now c.args.share.now (g.R.Arm.failed c.args.arm.now)) (having c.insert.new.seat c.insert.new.share (g.R.Arm.failed c.give_back_part-in-Err-insert.new.arm)) c.in-Err-insert.ensures.turn.0 _ c.in-Err-insert.ensures.turn.1.seat
+    c.from_residual.result c.from_residual.ensures.0
 
 pub returns-in_err-reply-in-Err-insert-clause-accounts : goal.returns-in_err-reply-in-Err-insert-clause-accounts
 returns-in_err-reply-in-Err-insert-clause-accounts g c =
-    let found = found_table (table_at c.args.engine.now.store c.args.table.now) c.requires.there in
-    let d = c.in-Err-insert.ensures.commits found.0 found.1 in
-    let files = g.F.Dir.files in
-    let was = c.args.engine.now in
-    let now = c.insert.new.self in
-    let s = c.args.sealed in
-    let back = part_returned files was now c.args.table.now found.0 s c.in-Err-insert.field-0 d c.requires.none_failed in
-    part_ended_accounts files was now c.args.table.now found.0 s c.in-Err-insert.field-0 d c.requires.none_failed c.in_err-reply-in-Err-insert.ensures.disk c.from_residual.result c.from_residual.ensures.0
-    (g.R.Arm.failed c.args.arm.now) (g.R.Arm.failed c.give_back_part-in-Err-insert.new.arm) (c.give_back_part-in-Err-insert.ensures.none_failed back)
+    let e = c.in-Err-insert.ensures in
+    let r = c.in-Err-insert.field-0 in
+    let back = back_calm (λ (p : SealedPart g.row.R-Stage.Denot). p.sealed.failed) c.args.sealed.part r.back e.back.same c.requires.none_failed in
+    let calm = c.give_back_part-in-Err-insert.ensures.none_failed back in
+    accounts_ended g.B.Names.opening g.B.Names.ledgers.parts (having c.args.seat.now c.args.share.now (g.R.Arm.failed c.args.arm.now)) (having c.insert.new.seat c.insert.new.share (g.R.Arm.failed c.give_back_part-in-Err-insert.new.arm)) Never calm (no_rise _ _ _ (Some r.cause) c.args.share.now c.insert.new.share e.turn.1.turn.counted c.requires.none_failed (disk_alone r.cause c.in_err-reply-in-Err-insert.ensures.disk)) c.from_residual.result c.from_residual.ensures.0
 
-pub returns-in_err-reply-in-Err-insert-clause-schema : goal.returns-in_err-reply-in-Err-insert-clause-schema
-returns-in_err-reply-in-Err-insert-clause-schema g c =
-    let found = found_table (table_at c.args.engine.now.store c.args.table.now) c.requires.there in
-    part_schema g.F.Dir.files c.args.engine.now c.insert.new.self c.args.table.now found.0 c.args.sealed _ (c.insert.ensures.commits found.0 found.1)
+pub returns-in_err-reply-in-Err-insert-clause-stays : goal.returns-in_err-reply-in-Err-insert-clause-stays
+returns-in_err-reply-in-Err-insert-clause-stays g c =
+    let e = c.in-Err-insert.ensures in
+    let r = c.in-Err-insert.field-0 in
+    let back = back_calm (λ (p : SealedPart g.row.R-Stage.Denot). p.sealed.failed) c.args.sealed.part r.back e.back.same c.requires.none_failed in
+    let calm = c.give_back_part-in-Err-insert.ensures.none_failed back in
+    let share = c.args.share.now in
+    looked_stays g.B.Names.opening g.B.Names.ledgers.parts share c.insert.new.share (g.R.Arm.failed c.args.arm.now) (g.R.Arm.failed c.give_back_part-in-Err-insert.new.arm) _ _ e.turn.1.turn.counted.rise e.turn.1.turn.counted.counted (omega arith) (omega (arith, calm))
+    c.args.seat.now c.insert.new.seat e.turn.0 e.turn.1.seat
 
 pub returns-in_err-reply-in-Err-insert-clause-arm : goal.returns-in_err-reply-in-Err-insert-clause-arm
 returns-in_err-reply-in-Err-insert-clause-arm g c =
-    let found = found_table (table_at c.args.engine.now.store c.args.table.now) c.requires.there in
-    arm_stays g.R.Arm c.args.arm.now c.give_back_part-in-Err-insert.new.arm c.give_back_part-in-Err-insert.ensures.tells (c.give_back_part-in-Err-insert.ensures.none_failed
-    (part_returned g.F.Dir.files c.args.engine.now c.insert.new.self c.args.table.now found.0 c.args.sealed c.in-Err-insert.field-0 (c.in-Err-insert.ensures.commits found.0 found.1) c.requires.none_failed))
+    let back = back_calm (λ (p : SealedPart g.row.R-Stage.Denot). p.sealed.failed) c.args.sealed.part c.in-Err-insert.field-0.back c.in-Err-insert.ensures.back.same c.requires.none_failed in
+    arm_stays g.R.Arm c.args.arm.now c.give_back_part-in-Err-insert.new.arm c.give_back_part-in-Err-insert.ensures.tells (c.give_back_part-in-Err-insert.ensures.none_failed back)
 
-pub returns-in_err-reply-in-Err-insert-clause-adds : goal.returns-in_err-reply-in-Err-insert-clause-adds
-returns-in_err-reply-in-Err-insert-clause-adds g c =
-    let found = found_table (table_at c.args.engine.now.store c.args.table.now) c.requires.there in
-    part_adds g.F.Dir.files c.args.engine.now c.insert.new.self c.args.table.now found.0 c.args.sealed _ (c.insert.ensures.commits found.0 found.1)
+-- what a store that was stopped before comes to
+pub returns-in-Err-clause-stopped : goal.returns-in-Err-clause-stopped
+returns-in-Err-clause-stopped g c = λ some. (refl, tt)
 
-pub returns-in_err-reply-in-Err-insert-clause-leaves : goal.returns-in_err-reply-in-Err-insert-clause-leaves
-returns-in_err-reply-in-Err-insert-clause-leaves g c =
-    let found = found_table (table_at c.args.engine.now.store c.args.table.now) c.requires.there in
-    part_leaves g.F.Dir.files c.args.engine.now c.insert.new.self c.args.table.now found.0 c.args.sealed _ (c.insert.ensures.commits found.0 found.1) c.insert.ensures.goes_on
+pub returns-in-Ok-insert-clause-stopped : goal.returns-in-Ok-insert-clause-stopped
+returns-in-Ok-insert-clause-stopped g c = λ some.
+    let e = c.in-Ok-insert.ensures in
+    let may = c.requires.may in
+    absurd (enter_stopped g.F.Dir.files g.B.Names.given g.B.Room.before g.B.Names.opening g.B.Names.ledgers.parts e.turn.0 c.args.table.now may.schema c.args.sealed.block c.args.seat.now c.insert.new.seat c.args.share.now c.insert.new.share c.args.sealed.part.sealed.failed may.there some c.in-Ok-insert.length e.turn.1)
+
+pub returns-in_ok-reply-in-Err-insert-clause-stopped : goal.returns-in_ok-reply-in-Err-insert-clause-stopped
+returns-in_ok-reply-in-Err-insert-clause-stopped g c = λ some.
+    let e = c.in-Err-insert.ensures in
+    let r = c.in-Err-insert.field-0 in
+    let may = c.requires.may in
+    let no = enter_not_failed g.F.Dir.files g.B.Names.given g.B.Room.before g.B.Names.opening g.B.Names.ledgers.parts e.turn.0 c.args.table.now may.schema c.args.sealed.block c.args.seat.now c.insert.new.seat c.args.share.now c.insert.new.share c.args.sealed.part.sealed.failed may.there some r e.turn.1 in
+    (e.turn.1.seat.kept, unless_disk c.args.accepted c.args.table.now r.cause c.in_ok-reply-in-Err-insert.reply c.in_ok-reply-in-Err-insert.ensures.line no)
+
+pub returns-in_err-reply-in-Err-insert-clause-stopped : goal.returns-in_err-reply-in-Err-insert-clause-stopped
+returns-in_err-reply-in-Err-insert-clause-stopped g c =
+    ended_stopped (having c.args.seat.now c.args.share.now (g.R.Arm.failed c.args.arm.now)) (having c.insert.new.seat c.insert.new.share (g.R.Arm.failed c.give_back_part-in-Err-insert.new.arm)) c.in-Err-insert.ensures.turn.1.seat.kept
+    c.from_residual.result c.from_residual.ensures.0
+
+-- what it tried
+pub returns-in-Err-clause-tries : goal.returns-in-Err-clause-tries
+returns-in-Err-clause-tries g c = λ schema there. inl (inl (refl, refl))
+
+pub returns-in-Ok-insert-clause-tries : goal.returns-in-Ok-insert-clause-tries
+returns-in-Ok-insert-clause-tries g c = λ schema there. inl (inr c.in-Ok-insert.ensures.turn.1.seat.0.tried)
+
+pub returns-in_ok-reply-in-Err-insert-clause-tries : goal.returns-in_ok-reply-in-Err-insert-clause-tries
+returns-in_ok-reply-in-Err-insert-clause-tries g c = λ schema there.
+    let e = c.in-Err-insert.ensures in
+    let r = c.in-Err-insert.field-0 in
+    let share = c.args.share.now in
+    block_tries g.F.Dir.files g.B.Names.given g.B.Room.before g.B.Names.opening g.B.Names.ledgers.parts e.turn.0 c.args.table.now schema c.args.sealed.block c.args.accepted c.args.seat.now c.insert.new.seat share c.insert.new.share (g.R.Arm.failed c.args.arm.now)
+    (g.R.Arm.failed c.give_back_part-in-Err-insert.new.arm) c.args.sealed.part.sealed.failed there r e.turn.1 c.args.sealed.part e.back c.in_ok-reply-in-Err-insert.reply c.in_ok-reply-in-Err-insert.ensures.line
+
+pub returns-in_err-reply-in-Err-insert-clause-tries : goal.returns-in_err-reply-in-Err-insert-clause-tries
+returns-in_err-reply-in-Err-insert-clause-tries g c = λ schema there.
+    let e = c.in-Err-insert.ensures in
+    let r = c.in-Err-insert.field-0 in
+    let share = c.args.share.now in
+    block_tries_ended g.F.Dir.files g.B.Names.given g.B.Room.before g.B.Names.opening g.B.Names.ledgers.parts e.turn.0 c.args.table.now schema c.args.sealed.block c.args.accepted c.args.seat.now c.insert.new.seat share c.insert.new.share (g.R.Arm.failed c.args.arm.now)
+    (g.R.Arm.failed c.give_back_part-in-Err-insert.new.arm) c.args.sealed.part.sealed.failed there r e.turn.1 c.args.sealed.part e.back c.from_residual.result c.from_residual.ensures.0 c.in_err-reply-in-Err-insert.ensures.disk
