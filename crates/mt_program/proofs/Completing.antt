@@ -25,11 +25,15 @@ use Rattle.mt_program.specs.Courses.{Course, GoesUnanswered, Item, RunOf, any_un
 use Rattle.mt_program.specs.Headline.{AnsweredAll, Headline}
 use Rattle.mt_program.specs.Promises.{MeetsNoFullPart, merges_all}
 use Rattle.mt_program.specs.Worlds.{HasNoFullPart, World}
-use Rattle.mt_program.proofs.ServedScripts.{neither}
 use Rattle.mt_program.specs.Statuses.{status_number}
 use Rattle.session.specs.run_streams.Streams.{ConsumesMost}
 use Rattle.mt_program.specs.declared.status.Status.{Status}
 use Rattle.mt_program.specs.declared.status.Status.TheVariants as status
+
+-- neither is so, where it is not so that one is
+neither : (a b : Bool) → (a || b) ≡ false → (a ≡ false) × (b ≡ false)
+neither true b h = cc
+neither false b h = (refl, h)
 
 -- of a status that is none of the others
 pub zero_or_six : (s : Status) → (s ≡ status.NotWords → ⊥) → (s ≡ status.ReadFault → ⊥) → (s ≡ status.WriteFault → ⊥) → (s ≡ status.DiskFault → ⊥) → (s ≡ status.Damaged → ⊥) → (s ≡ status.TooLong → ⊥)
@@ -101,7 +105,7 @@ not_passed false never = refl
 
 -- what the outside did, where no part has the greatest level
 abbrev none_full : Outside → Outside
-none_full n = record { opened = n.opened; ended = n.ended; full = false }
+none_full n = record { opened = n.opened; ended = n.ended; full = false; company = n.company }
 
 -- a part of the greatest level is no matter to a statement that is no OPTIMIZE with FINAL
 takes_without : (n : Outside) (h : History) (s : Item) (from to : ℕ) (reply : List ℕ) → merges_all s ≡ false → Takes n h 0 s from to reply → Takes (none_full n) h 0 s from to reply
@@ -160,19 +164,19 @@ module _ (before after : World) (kept : Told) (script written : List ℕ) where
     all_run = whole_run left.outside true left.now left.course left.rest left.out left.split left.ran left.ends
 
     -- whatever the outside did but for its counts
-    calm_run : (m : Outside) → m.ended ≡ m.opened → m.ended < 2 ^ 64 - 1 → m.full ≡ false → ScriptReplies m (statements_of script) (history left.now) (length kept.list) left.course.replies
+    calm_run : (m : Outside) → m.ended ≡ m.opened → m.ended < 2 ^ 64 - 1 → m.full ≡ false → m.company ≡ false → ScriptReplies m (statements_of script) (history left.now) (length kept.list) left.course.replies
         → NoneMeetsCause (history kept) (statements_of script) → ⊥
-    calm_run m calm under free run none_meets =
+    calm_run m calm under free alone run none_meets =
         let causes : NoneMeetsCause (take (length kept.list) (history left.now)) (statements_of script) = subst (λ (h : History). NoneMeetsCause h (statements_of script)) (sym (front_is kept left.now left.more left.begins)) none_meets in
-        let none = calm_script m (statements_of script) (history left.now) (length kept.list) left.course.replies calm under free run causes in
+        let none = calm_script m (statements_of script) (history left.now) (length kept.list) left.course.replies calm under free alone run causes in
         false≢true (sym none ∙ sym left.ends.says.refusals)
 
     not_refused : MeetsNoFullPart script after → NoneMeetsCause (history kept) (statements_of script) → ⊥
     not_refused meets none_meets = by (list_any merges_all (statements_of script)) refl
       where
         by : (b : Bool) → list_any merges_all (statements_of script) ≡ b → ⊥
-        by true is = calm_run left.outside same low (room (meets is)) all_run none_meets
-        by false is = calm_run (none_full left.outside) same low refl (script_without left.outside (statements_of script) (history left.now) (length kept.list) left.course.replies is all_run) none_meets
+        by true is = calm_run left.outside same low (room (meets is)) left.outside_is.alone all_run none_meets
+        by false is = calm_run (none_full left.outside) same low refl left.outside_is.alone (script_without left.outside (statements_of script) (history left.now) (length kept.list) left.course.replies is all_run) none_meets
 
   pub none_refused : before.storage.failed ≤ after.storage.failed → (Rose before.storage.failed after.storage.failed → ⊥) → MeetsNoFullPart script after
       → NoneMeetsCause (history kept) (statements_of script) → Headline status.Refused before after kept script written → ⊥

@@ -1,5 +1,5 @@
 -- What is left for a crash, from opening to the end of a run.
-use Rattle.std.proofs.Common.{◌≡◌, ◌++◌, ◌∷◌, ℕ, List, [], Option, Some, None, refl, sym, ◌∙◌, subst, ap, append_assoc}
+use Rattle.std.proofs.Common.{◌≡◌, ◌++◌, ℕ, List, [], Option, Some, None, refl, sym, ◌∙◌, subst}
 use Rattle.mt_values.specs.Annals.{Told}
 use Rattle.mt_values.specs.Script.{statements_of}
 use Rattle.mt_outside.specs.Disk as root
@@ -33,10 +33,6 @@ pub left_behind : {F : Type 0} {files_of : F → Option Files} {store : CoreStor
     → statements ≡ ran ++ rest → store.opened ≡ opened → KeepsThroughCrashes files_of store now first start → IsGainedBy ran now.annals first → LeavesForCrashes statements opened now first start
 left_behind {now = now} {first = first} opened statements ran rest split same keeps gained =
     left_for_crashes opened statements same keeps (subst (λ (ss : List Item). IsGainedBy ss now.annals first) (sym split) (gained_more first ran rest now.annals gained))
-
--- one statement more of a script ran
-pub one_more : (script : List ℕ) (ran left : List Item) (st : Item) (rest : List Item) → statements_of script ≡ ran ++ left → left ≡ st ∷ rest → statements_of script ≡ (ran ++ st ∷ []) ++ rest
-one_more script ran left st rest split is = split ∙ (ap (λ (ss : List Item). ran ++ ss) is ∙ sym (append_assoc ran (st ∷ []) rest))
 
 -- the script was not read
 pub unread : {F : Type 0} {files_of : F → Option Files} {store : CoreStore F} {now : Storage} {first : Told} {start : ℕ} (source : Option (List ℕ))

@@ -93,7 +93,7 @@ nothing_ran n kept = record {
 
 -- the counts of a run in which no part has the greatest level
 abbrev no_level : World → World → Outside
-no_level before after = record { opened = before.storage.failed; ended = after.storage.failed; full = false }
+no_level before after = record { opened = before.storage.failed; ended = after.storage.failed; full = false; company = false }
 
 -- a root that stands for a list
 pub root_told : (o : Option root.Told) (told : root.Told) (h : History) → o ≡ Some told → Stands (root.names_of told) h → RootStands o h
@@ -113,7 +113,7 @@ module _ (before after : World) (kept : Told) (script written : List ℕ)
     rest = statements_of script;
     split = refl;
     outside = no_level before after;
-    outside_is = record { opened = refl; ended = refl; full = λ is told known. cc };
+    outside_is = record { opened = refl; ended = refl; full = λ is told known. cc; alone = refl };
     ran = nothing_ran (no_level before after) kept;
     begun = inl (refl, refl);
     out = [];

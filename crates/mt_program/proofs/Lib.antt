@@ -1,4 +1,4 @@
-pub mod Begun
+pub mod Alone
 pub mod Chaining
 pub mod Completing
 pub mod Crashing
@@ -6,6 +6,8 @@ pub mod Gaining
 pub mod Heading
 pub mod Promising
 pub mod Reopened
+pub mod SeatScripts
+pub mod SeatServed
 pub mod ServedScripts
 pub mod Undamaged
 pub mod Unopened

@@ -1,5 +1,5 @@
 -- A store whose count of faults at opening is the one before the disk was started.
-use Rattle.std.proofs.Common.{◌≡◌, ◌+◌, ◌-◌, ◌<◌, ◌≤◌, ◌^◌, ℕ, Bool, true, List, map, [], Option, Some, Result, ap, refl, sym, subst, ◌∙◌}
+use Rattle.std.proofs.Common.{◌≡◌, ◌+◌, ◌-◌, ◌<◌, ◌≤◌, ◌^◌, ℕ, Bool, true, List, map, Option, Some, refl, sym, subst, ◌∙◌}
 use Rattle.std.proofs.lemmas.List.Elements.{All-weaker}
 use Rattle.std.specs.Map.{keys_of}
 use Rattle.mt_base.specs.Limits.{level_limit}
@@ -9,27 +9,19 @@ use Rattle.mt_outside.proofs.Changes.{at_clock-none, before_clock-all}
 use Rattle.mt_outside.proofs.Crashes.{stamped_by}
 use Rattle.session.specs.mt_model.History.{History}
 use Rattle.root_log.specs.root_store.declared.store.CoreStore.{CoreStore}
-use Rattle.mt_values.specs.Annals as keeper
-use Rattle.session.specs.replies.Foreseen.{history}
-use Rattle.session.specs.Answers.{Knows}
 use Rattle.root_log.specs.part_set.Sets.{parts_of}
 use Rattle.session.specs.shared_store.Levels.{has_greatest}
 use Rattle.session.proofs.SharedStoreLevels.{greatest_there, name_here}
-use Rattle.session.specs.shared_store.Engines.{IsOpen, Opened}
 use Rattle.root_log.specs.root_opening.Opened.{Opens}
-use Rattle.root_log.specs.root_store.Crashes.{KeepsThroughCrashes, Storage}
 use Rattle.root_log.specs.root_store.Roots.{Stands}
 use Rattle.root_log.specs.root_store.Shown.{AreShown, GreatestAreShown, ImagesShow, part_called}
 use Rattle.root_log.proofs.RootOpeningImagesShown.{shown_opened}
 use Rattle.root_log.proofs.RootOpeningStanding.{core_stands}
 use Rattle.root_log.proofs.RootStoreCrashOrder.{same_names}
-use Rattle.root_log.specs.root_store.Soundness.{HasSoundParts, IsNameUnder, IsReady, IsSoundStore, NamesFit, RootStands}
-use Rattle.mt_program.specs.Crashes.{IsGainedBy, LeavesOfScript}
-use Rattle.mt_program.specs.Endings.{LeftBy}
-use Rattle.mt_program.specs.Serving.{Output, Stretch}
+use Rattle.root_log.specs.root_store.Soundness.{IsNameUnder, IsReady, IsSoundStore, NamesFit}
+use Rattle.root_log.specs.root_store.Crashes.{Storage}
+use Rattle.mt_program.specs.Serving.{Stretch}
 use Rattle.mt_program.specs.Worlds.{HasFullPart}
-use Rattle.mt_program.specs.declared.serving.Ending.{Ending}
-use Rattle.mt_program.specs.declared.status.Status.{Status}
 use Rattle.root_log.specs.root_store.Stores.{CoreStands}
 
 abbrev pub reopened : {F : Type 0} → CoreStore F → ℕ → CoreStore F
@@ -107,52 +99,9 @@ images_settled store told clock disk now known raised stamped shown = λ root is
     let kept : Survive (names_of told) names = rw (before_clock-all told clock by, at_clock-none told clock by) at here in
     shown_alike store (names_of told) names (same_names (names_of told) names kept) shown
 
--- ---- the root as one value
-
-module _ {F : Type 0} (files_of : F → Option Files) (root : Opened F) (store : CoreStore F) (s : Storage) (store_is : root.store ≡ store) (storage_is : root.storage ≡ s) where
-  -- it is ready for a turn
-  pub open_root : IsReady s.failed s.disk store → IsOpen root
-  open_root ready = subst (λ (c : CoreStore F). IsReady root.storage.failed root.storage.disk c) (sym store_is) (subst (λ (x : Storage). IsReady x.failed x.disk store) (sym storage_is) ready)
-
-  -- the annals are known, and the store that was opened stands for them
-  pub knows_root : (kept : keeper.Told) → s.annals ≡ Some kept → CoreStands files_of (history kept) store → Knows files_of kept root
-  knows_root kept is stands = record {
-    told_is = ap (λ (x : Storage). x.annals) storage_is ∙ is;
-    stands = subst (CoreStands files_of (history kept)) (sym store_is) stands;
-  }
-
-  -- so its disk does
-  pub stands_root : (kept : keeper.Told) → RootStands s.disk (history kept) → RootStands root.storage.disk (history kept)
-  stands_root kept stands = subst (λ (x : Storage). RootStands x.disk (history kept)) (sym storage_is) stands
-
-  -- none of its files is damaged
-  pub sound_root : HasSoundParts files_of store → HasSoundParts files_of root.store
-  sound_root held = subst (HasSoundParts files_of) (sym store_is) held
-
-  -- a crash leaves what it would over what was opened
-  pub keeps_root : (first : keeper.Told) (start : ℕ) → KeepsThroughCrashes files_of store s first start → KeepsThroughCrashes files_of root.store root.storage first start
-  keeps_root first start keeps =
-      subst (λ (c : CoreStore F). KeepsThroughCrashes files_of c root.storage first start) (sym store_is)
-      (subst (λ (x : Storage). KeepsThroughCrashes files_of store x first start) (sym storage_is) keeps)
-
-  pub gained_root : (first : keeper.Told) → IsGainedBy [] s.annals first → IsGainedBy [] root.storage.annals first
-  gained_root first gained = subst (λ (x : Storage). IsGainedBy [] x.annals first) (sym storage_is) gained
-
 -- a stretch by what it met and left
 abbrev pub stretch : ℕ → Option Told → Storage → ℕ → Bool → Stretch
 stretch opened root now arm full = record { opened = opened; root = root; now = now; arm = arm; full = full }
-
--- what is left, by what is handed out at the end
-pub left_as : (ended : Result Ending Status) (kept : keeper.Told) (script : List ℕ) (output : Output) (arm : ℕ) (full : Bool) (had opened : ℕ) (root disk : Option Told) (now after : Storage) → had ≡ opened → root ≡ disk → now ≡ after
-    → LeftBy ended kept script (stretch had root now arm full) output → LeftBy ended kept script (stretch opened disk after arm full) output
-left_as ended kept script output arm full had opened root disk now after first second third left =
-    subst (λ (m : ℕ). LeftBy ended kept script (stretch m disk after arm full) output) first
-    (subst (λ (o : Option Told). LeftBy ended kept script (stretch had o after arm full) output) second
-    (subst (λ (x : Storage). LeftBy ended kept script (stretch had root x arm full) output) third left))
-
-pub script_as : (source : Option (List ℕ)) (had opened : ℕ) (now after : Storage) (first : keeper.Told) (start : ℕ) → had ≡ opened → now ≡ after → LeavesOfScript source had now first start → LeavesOfScript source opened after first start
-script_as source had opened now after first start same is left =
-    subst (λ (m : ℕ). LeavesOfScript source m after first start) same (subst (λ (x : Storage). LeavesOfScript source had x first start) is left)
 
 -- ---- at the end
 

@@ -1,9 +1,6 @@
 -- What a run tells of damage.
-use Rattle.std.proofs.Common.{◌≡◌, ℕ, ◌||◌, false, List, Result, ap, ◌∙◌, Bool, ◌⊎◌, inl, inr}
+use Rattle.std.proofs.Common.{◌≡◌, Result, Bool, ◌⊎◌, inl, inr}
 use Rattle.mt_outside.specs.Disk.{Names}
-use Rattle.session.specs.mt_model.Refusals.{is_damage}
-use Rattle.session.specs.replies.declared.tally.Tally.{Tally}
-use Rattle.session.specs.replies.Tallies.{tallied}
 use Rattle.root_log.specs.root_opening.declared.opening.OpenFault.{OpenFault}
 use Rattle.root_log.specs.root_opening.declared.opening.OpenFault.TheVariants as opening
 use Rattle.root_log.specs.root_opening.Opening.{IsNotDamaged, TellsDamage}
@@ -13,10 +10,6 @@ use Rattle.mt_program.specs.declared.serving.Ending.{Ending}
 use Rattle.mt_program.specs.declared.status.Status.{Status}
 use Rattle.mt_program.specs.declared.status.Status.TheVariants as status
 use Rattle.mt_program.proofs.Heading.{not_damaged}
-
--- what was said of damage stays, where one more reply does not tell of it
-pub tallied_undamaged : (old : Tally) (reply : List ℕ) (new : Tally) → new ≡ tallied old reply → old.damaged ≡ false → is_damage reply ≡ false → new.damaged ≡ false
-tallied_undamaged old reply new is none calm = ap (λ (t : Tally). t.damaged) is ∙ (ap (λ b. b || is_damage reply) none ∙ calm)
 
 -- a root that was not opened is damaged where the status says so
 pub not_opened : (names : Names) (fault : OpenFault) (ended : Status) → TellsDamage names fault → (IsNotDamaged fault → ended ≡ status.Damaged → ⊥) → ((ended ≡ status.Damaged → ⊥) ⊎ IsDamagedRoot names)

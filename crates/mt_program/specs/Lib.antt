@@ -4,6 +4,8 @@ pub mod Damage
 pub mod Endings
 pub mod Headline
 pub mod Promises
+pub mod SeatServing
 pub mod Serving
+pub mod Sharing
 pub mod Statuses
 pub mod Worlds

@@ -1,21 +1,17 @@
 -- What a script that was served leaves (docs/definitions-of-runs.md, "Runs").
-use Rattle.std.specs.Prelude.{◌≡◌, ◌<◌, ℕ, Bool, true, List, [], ◌++◌, length, drop, All, Option, None, Some}
+use Rattle.std.specs.Prelude.{◌≡◌, ◌<◌, ℕ, Bool, true, List, [], ◌++◌, length, All, Option, None, Some}
 use Rattle.std.specs.List.{concat, list_any}
 use Rattle.std.specs.Io.KnownBytes.{Appends}
 use Rattle.mt_values.specs.declared.annals.Noted.{Noted}
 use Rattle.mt_values.specs.Annals.{Told}
 use Rattle.mt_values.specs.Script.{statements_of}
 use Rattle.mt_outside.specs.Disk as root
-use Rattle.mt_outside.specs.Files.{Files}
 use Rattle.session.specs.mt_model.History.{IsLegal}
 use Rattle.session.specs.mt_model.Outside.{Outside}
 use Rattle.session.specs.mt_model.Session.{SessionReplies}
 use Rattle.root_log.specs.root_store.Crashes.{Storage}
-use Rattle.root_log.specs.root_store.Stores.{CoreStands}
 use Rattle.session.specs.replies.Foreseen.{Foresees, history, is_unsettled}
-use Rattle.session.specs.Answers.{Turned}
-use Rattle.session.specs.shared_store.Levels.{has_greatest}
-use Rattle.mt_program.specs.Courses.{AreSettled, AreStopped, Course, GoesUnanswered, IsBegunBy, IsCut, Item, TalliesReplies, course_of, started}
+use Rattle.mt_program.specs.Courses.{AreSettled, AreStopped, Course, GoesUnanswered, IsBegunBy, IsCut, Item, TalliesReplies, started}
 use Rattle.mt_program.specs.declared.serving.Ending.{Ending}
 use Rattle.mt_program.specs.declared.serving.Ending.TheVariants as ending
 use Rattle.session.specs.replies.declared.tally.Tally.{Tally}
@@ -28,10 +24,6 @@ pub record Stretch : Type 0 where
   pub now : Storage
   pub arm : ℕ
   pub full : Bool
-
--- what was met and left over an open root
-abbrev pub stretch_of : {F : Type 0} → Turned F → Stretch
-stretch_of t = record { opened = t.was.store.opened; root = t.was.storage.disk; now = t.now.storage; arm = t.arm; full = has_greatest t.now.store }
 
 -- what a run may come to agrees with the counts at its end, and with whether some part has the greatest level then
 abbrev pub MayComeTo : Stretch → Outside → Type 0
@@ -64,16 +56,6 @@ pub record Progress : Type 0 where
   pub script : List ℕ
   pub at : ℕ
   pub tally : Tally
-
--- The statements of the script up to a place ran, and their replies were written. The store stands for what the annals list.
-pub record Served {F : Type 0} (files_of : F → Option Files) (kept : Told) (p : Progress) (t : Turned F) (output : Output) : Type 0 where
-  pub done : List Item
-  pub replies : List (List ℕ)
-  pub split : statements_of p.script ≡ done ++ statements_of (drop p.at p.script)
-  pub ran : Ran kept (stretch_of t) (course_of done replies None)
-  pub stands : CoreStands files_of (history ran.now) t.now.store
-  pub wrote : Appends output.before output.after (concat replies)
-  pub tells : TalliesReplies p.tally replies
 
 -- which statements are left, and what was written of the replies: all of them whole, but where the sink failed
 abbrev pub StopsBy : Ending → Course → List Item → List ℕ → Type 0

@@ -1,5 +1,5 @@
 -- What is known of the outside of a run (docs/architecture.md, "Counts of faults").
-use Rattle.std.specs.Prelude.{◌≡◌, ◌≤◌, ℕ, Bool, true, List, Option, Some}
+use Rattle.std.specs.Prelude.{◌≡◌, ◌≤◌, ℕ, Bool, true, false, List, Option, Some}
 use Rattle.mt_base.specs.Limits.{level_limit}
 use Rattle.mt_values.specs.Annals.{Told}
 use Rattle.mt_values.specs.declared.annals.Annals.{Ghosts as AnnalsGhosts}
@@ -53,11 +53,12 @@ abbrev pub IsFullOnlyBy : Option root.Told → Bool → Type 0
 IsFullOnlyBy disk full = full ≡ true → (told : root.Told) → disk ≡ Some told → HasFullPart (root.names_of told)
 
 -- What the outside did from one moment to another: the disk's counts of faults, and whether a part has the greatest level at the end, which is so
--- only where a visible part has it then (docs/definitions-of-runs.md, "Faults of the outside").
+-- only where a visible part has it then. Nobody runs beside the one session (docs/definitions-of-runs.md, "Faults of the outside").
 pub record IsOutsideOf (before after : World) (n : Outside) : Type 0 where
   pub opened : n.opened ≡ before.storage.failed
   pub ended : n.ended ≡ after.storage.failed
   pub full : IsFullOnlyBy after.storage.disk n.full
+  pub alone : n.company ≡ false
 
 -- no visible part has the greatest level (docs/definitions-of-runs.md, "Faults of the outside")
 abbrev pub HasNoFullPart : World → Type 0

@@ -4,6 +4,7 @@
 mod laws;
 mod refusals;
 mod serving;
+mod sharing;
 mod status;
 mod top;
 
@@ -12,4 +13,4 @@ pub use serving::Ending;
 pub use session::replies::Tally;
 pub use session::run_streams::SourceStop;
 pub use status::Status;
-pub use top::{Done, run, run_alone};
+pub use top::{Done, run};

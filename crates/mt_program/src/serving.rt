@@ -1,19 +1,13 @@
-// Answering the statements of a script, one after another.
-ghost use Rattle.std.specs.Prelude.{◌≡◌, [], ◌<◌, ◌≤◌, Ok, Some, true, IfOk, IfSome, drop, length, ℕ};
+// Answering the statements of a script, one after another, as a session of a shared root.
+ghost use Rattle.std.specs.Prelude.{◌≡◌, ◌<◌, ◌≤◌, IfOk, IfSome, drop, length, true};
 ghost use Rattle.std.specs.Option.{option_map};
-ghost use Rattle.mt_values.specs.Annals.{Told};
-ghost use Rattle.mt_values.specs.Script.{next_statement, statements_of};
+ghost use Rattle.mt_values.specs.Script.{next_statement};
 ghost use Rattle.mt_outside.specs.Causes.{Rose};
-ghost use Rattle.root_log.specs.root_store.Crashes.{KeepsThroughCrashes};
-ghost use Rattle.root_log.specs.root_store.Shown.{HasNoMark};
-ghost use Rattle.root_log.specs.root_store.Soundness.{HasSoundParts, RootStands};
-ghost use Rattle.session.specs.Answers.{Knows, Turned};
-ghost use Rattle.session.specs.Lapses.{KeepsOpen};
-ghost use Rattle.session.specs.shared_store.Engines.{IsOpen};
-ghost use Rattle.session.specs.replies.Foreseen.{history};
-ghost use Rattle.mt_program.specs.Crashes.{IsGainedBy, LeavesForCrashes};
-ghost use Rattle.mt_program.specs.Endings.{MetNoDamage};
-ghost use Rattle.mt_program.specs.Serving.{Output, ServedBy, stretch_of};
+ghost use Rattle.session.specs.shared_store.history_seat.Turns.{IsSession};
+ghost use Rattle.session.specs.shared_store.Stood.{is_told};
+ghost use Rattle.session.specs.Answers.{KnowsOwn, having};
+ghost use Rattle.mt_program.specs.SeatServing.{SeatServes};
+ghost use Rattle.mt_program.specs.Serving.{Output};
 
 use mt_base::NoMemory;
 use mt_outside::{Arm, Dir, Disk, Gate, Point, Sink, Who};
@@ -21,8 +15,10 @@ use mt_values::{Annals, Cause, Statement};
 use root_log::sql_read::{Next, next_statement};
 use session::replies::{Tally, write_reply};
 use session::run_statement;
-use session::shared_store::Engine;
+use session::shared_store::history_seat::Seat;
+use session::shared_store::{Names, Share, Shared};
 use std::alloc::Global;
+use std::sync::Wait;
 
 /// How a script ended.
 #[derive(Clone, Copy)]
@@ -56,42 +52,47 @@ fn read_next(
 }
 
 /// Answers the statements of a script in order, each reply written whole before the next statement runs.
-pub fn serve<F: Dir, R: Arm<Dir = F>, D: Disk<Arm = R>, A: Annals, K: Sink, G: Gate>(
+pub fn serve_session<
+    W: Wait,
+    F: Dir,
+    R: Arm<Dir = F>,
+    D: Disk<Arm = R>,
+    A: Annals,
+    B: Names,
+    K: Sink,
+    G: Gate,
+>(
+    rt: &W,
     alloc: Global,
-    engine: &mut Engine<F, R, D, A>,
+    shared: &Shared<F, R, D, A, B>,
+    seat: &mut Seat<B>,
+    share: &mut Share<B>,
     arm: &mut R,
     sink: &mut K,
     gate: &mut G,
     script: &[u8],
 ) -> Ending
-    requires open { IsOpen engine.old }
-    requires free { HasNoMark engine.old.store }
+    requires session { IsSession seat.old }
+    requires own { KnowsOwn seat.old }
+    requires parts { 0 < share.old.parts }
+    requires out { share.old.out ≡ 0 }
+    requires tells { B.given is_told → R.tells arm.old ≡ true }
 
-    // What is answered and written, and what a crash leaves.
-    ensures run { let turned : Turned F = record {
-      was = engine.old;
-      now = engine.new;
-      arm = R.failed arm.new;
+    // What is answered and written.
+    ensures run { let output : Output = record {
+      before = K.written sink.old;
+      after = K.written sink.new;
     } in
-        let output : Output = record { before = K.written sink.old; after = K.written sink.new } in
-        (kept : Told) → R.tells arm.old ≡ true → Knows F.files kept engine.old
-        → RootStands engine.old.storage.disk (history kept)
-        → ServedBy result kept script.now (stretch_of turned) output }
-    ensures undamaged { R.tells arm.old ≡ true → HasSoundParts F.files engine.old.store
-        → MetNoDamage (Ok result) }
-    ensures through_crashes { (first : Told) (start : ℕ) → R.tells arm.old ≡ true
-        → KeepsThroughCrashes F.files engine.old.store engine.old.storage first start
-        → IsGainedBy [] engine.old.storage.annals first
-        → LeavesForCrashes (statements_of script.now) engine.old.store.opened
-        engine.new.storage first start }
+        SeatServes B.given B.before B.opening B.ledgers.parts result script.now
+        (having seat.old share.old (R.failed arm.old))
+        (having seat.new share.new (R.failed arm.new)) output }
 
-    // What the root is then, and what the counts of faults are.
-    ensures keeps { KeepsOpen engine.old engine.new }
-    ensures arm_later { R.failed arm.old ≤ R.failed arm.new }
+    // What the counts of faults are.
     ensures sink_later { K.failed sink.old ≤ K.failed sink.new }
     ensures write_fault { result ≡ Ending.WriteFault
         → Rose (K.failed sink.old) (K.failed sink.new) }
 {
+    let who = Who::Session(seat.number());
     let mut at = 0;
     let mut tally = Tally::none();
     'statements: while at < script.len() {
@@ -100,12 +101,12 @@ pub fn serve<F: Dir, R: Arm<Dir = F>, D: Disk<Arm = R>, A: Annals, K: Sink, G: G
             Ok(None) => return Ending::Done(tally),
             Err(_) => return Ending::NoMemory,
         };
-        gate.pass(Who::Session(0), Point::StatementStart);
-        let reply = match run_statement(alloc, engine, arm, gate, statement) {
+        gate.pass(who, Point::StatementStart);
+        let reply = match run_statement(rt, alloc, shared, seat, share, arm, gate, statement) {
             Ok(reply) => reply,
             Err(_) => return Ending::NoMemory,
         };
-        gate.pass(Who::Session(0), Point::Answered);
+        gate.pass(who, Point::Answered);
         tally = match write_reply(sink, tally, &reply) {
             Ok(told) => told,
             Err(_) => return Ending::WriteFault,

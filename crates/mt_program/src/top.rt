@@ -4,34 +4,29 @@ ghost use Rattle.mt_values.specs.Annals.{Told};
 ghost use Rattle.mt_outside.specs.Causes.{Rose};
 ghost use Rattle.mt_outside.specs.Disk as root;
 ghost use Rattle.root_log.specs.root_opening.declared.opening.Damage.{Damage as Damaged};
-ghost use Rattle.root_log.specs.root_store.Crashes.{AllStand, KeepsThroughCrashes};
+ghost use Rattle.root_log.specs.root_store.Crashes.{AllStand};
 ghost use Rattle.root_log.specs.root_opening.Opening.{IsNotDamaged, IsRootDamage};
-ghost use Rattle.root_log.specs.root_store.Shown.{HasNoMark};
 ghost use Rattle.root_log.specs.root_store.Roots.{Stands};
-ghost use Rattle.root_log.specs.root_store.Soundness.{HasSoundParts, RootStands};
 ghost use Rattle.session.specs.replies.Foreseen.{history};
-ghost use Rattle.session.specs.Answers.{Knows, Turned};
-ghost use Rattle.session.specs.Lapses.{KeepsOpen};
-ghost use Rattle.session.specs.shared_store.Engines.{IsOpen};
-ghost use Rattle.mt_program.specs.Crashes.{IsAsBefore, IsGainedBy, LeavesOfScript};
+ghost use Rattle.mt_program.specs.Crashes.{IsAsBefore, LeavesOfScript};
 ghost use Rattle.mt_program.specs.Damage.{IsDamagedRoot, WritesDamage, WritesFault, damage_line};
-ghost use Rattle.mt_program.specs.Endings.{IsEarly, LeftAtEnd, LeftBy, MetNoDamage, status_of, status_of_error, status_of_stop};
+ghost use Rattle.mt_program.specs.Endings.{IsEarly, LeftAtEnd, MetNoDamage, status_of, status_of_error, status_of_stop};
 ghost use Rattle.mt_program.specs.Promises.{LeavesOfRun, Promises};
-ghost use Rattle.mt_program.specs.Serving.{Output, Stretch, stretch_of};
+ghost use Rattle.mt_program.specs.Serving.{Output, Stretch};
 ghost use Rattle.mt_program.specs.Worlds.{storage_of, world_of};
 ghost use Rattle.command_line.specs.Words.{command_of, said};
 ghost use Rattle.session.specs.run_streams.Streams.{ConsumesMost};
 
 use crate::Status;
 use crate::refusals::damage_line;
-use crate::serving::{Ending, serve};
+use crate::serving::Ending;
+use crate::sharing::{Served, serve_root};
 use command_line::{CommandLine, read_words};
 use mt_base::{NoMemory, Policy};
-use mt_outside::{Arm, Dir, Disk, DiskError, Gate, Sink, Source};
+use mt_outside::{Arm, Disk, DiskError, Gate, Sink, Source};
 use mt_values::Annals;
 use root_log::{Damage, OpenFault, open};
 use session::run_streams::{SourceStop, read_all, write_all};
-use session::shared_store::Engine;
 use std::alloc::Global;
 use std::sync::Wait;
 use std::thread::Threads;
@@ -89,60 +84,31 @@ fn status_at_end(ended: Result<Ending, Status>, risen: bool) -> Status
     }
 }
 
-/// Reads the script and answers its statements, over a root that is open.
+/// Reads the script.
 ///
-/// The status of a script that was not read.
-fn run_script<F: Dir, R: Arm<Dir = F>, D: Disk<Arm = R>, A: Annals, S: Source, K: Sink, G: Gate>(
-    alloc: Global,
-    engine: &mut Engine<F, R, D, A>,
-    source: &mut S,
-    sink: &mut K,
-    arm: &mut R,
-    gate: &mut G,
-) -> Result<Ending, Status>
-    requires open { IsOpen engine.old }
-    requires free { HasNoMark engine.old.store }
-
-    // What is answered, and what a crash leaves.
-    ensures leaves { let turned : Turned F = record {
-      was = engine.old;
-      now = engine.new;
-      arm = R.failed arm.new;
-    } in
-        let output : Output = record { before = K.written sink.old; after = K.written sink.new } in
-        (kept : Told) (script : List ℕ) → R.tells arm.old ≡ true → Knows F.files kept engine.old
-        → RootStands engine.old.storage.disk (history kept) → S.left source.old ≡ Some script
-        → LeftBy result kept script (stretch_of turned) output }
-    ensures undamaged { R.tells arm.old ≡ true → HasSoundParts F.files engine.old.store
-        → MetNoDamage result }
-    ensures through_crashes { (first : Told) (start : ℕ) → R.tells arm.old ≡ true
-        → KeepsThroughCrashes F.files engine.old.store engine.old.storage first start
-        → IsGainedBy [] engine.old.storage.annals first → LeavesOfScript (S.left source.old)
-        engine.old.store.opened engine.new.storage first start }
-
-    // What was read, and why it ended early.
+/// The status of one that was not read.
+fn read_script<S: Source>(alloc: Global, source: &mut S) -> Result<Vec<u8>, Status>
+    // What was read.
+    ensures text { (script : List ℕ) → S.left source.old ≡ Some script
+        → IfOk result (λ text. text.items ≡ script) }
     ensures whole { (script : List ℕ) → S.left source.old ≡ Some script
         → OnOk result ((length script < 2 ^ 40) × (S.left source.new ≡ Some [])) }
+
+    // Why it was not.
     ensures early { IfErr result IsEarly }
+    ensures undamaged { IsErrOf result Status.Damaged → ⊥ }
+    ensures disk { IsErrOf result Status.DiskFault → ⊥ }
     ensures read { IsErrOf result Status.ReadFault
         → Rose (S.failed source.old) (S.failed source.new) }
     ensures unfailed { (IsErrOf result Status.ReadFault → ⊥)
         → S.failed source.new ≡ S.failed source.old }
-    ensures disk { result ≡ Err Status.DiskFault → ⊥ }
     ensures long { IsErrOf result Status.TooLong
         → ConsumesMost (S.left source.old) (S.left source.new) }
-    ensures write { result ≡ Ok Ending.WriteFault → Rose (K.failed sink.old) (K.failed sink.new) }
-
-    // What the root is then, and what the arm's count of faults is.
-    ensures keeps { KeepsOpen engine.old engine.new }
-    ensures arm_later { R.failed arm.old ≤ R.failed arm.new }
 {
-    let text = match read_all(alloc, source) {
-        Ok(text) => text,
-        Err(stop) => return Err(failed_reading(stop)),
-    };
-    let ending = serve(alloc, engine, arm, sink, gate, &text);
-    Ok(ending)
+    match read_all(alloc, source) {
+        Ok(text) => Ok(text),
+        Err(stop) => Err(failed_reading(stop)),
+    }
 }
 
 /// Writes the line of what keeps the root from being opened.
@@ -178,10 +144,11 @@ fn failed_root<K: Sink>(alloc: Global, sink: &mut K, fault: &OpenFault) -> Statu
     }
 }
 
-/// Opens the root and runs a script over it, with this policy of merges. `opened` is the disk's count before the root was opened.
+/// Opens the root and runs a script over it, as its one session, with this policy of merges. `opened` is the disk's count before the root was opened.
 ///
 /// The status of a script that was not read, and of a root that was not opened.
-fn run_root<D: Disk, A: Annals, S: Source, K: Sink, G: Gate>(
+fn run_root<W: Wait, D: Disk, A: Annals, S: Source, K: Sink, G: Gate>(
+    rt: &W,
     alloc: Global,
     opened: u64,
     source: &mut S,
@@ -265,9 +232,17 @@ fn run_root<D: Disk, A: Annals, S: Source, K: Sink, G: Gate>(
         }
     };
     store.opened = opened;
-    let mut engine = Engine::new(store, disk, annals, policy);
-    let end = run_script(alloc, &mut engine, source, sink, arm, gate);
-    let (disk, annals) = engine.into_outside();
+    let text = match read_script(alloc, source) {
+        Ok(text) => text,
+        Err(early) => {
+            let end = Err(early);
+            return Ended { end, disk, annals };
+        }
+    };
+    let Served { end, disk, annals } = serve_root(
+        rt, alloc, store, disk, annals, policy, arm, sink, gate, &text,
+    );
+    let end = Ok(end);
     Ended { end, disk, annals }
 }
 
@@ -307,7 +282,8 @@ fn started_arm<D: Disk>(alloc: Global, path: &str, disk: &mut D) -> Result<D::Ar
 }
 
 /// Starts the disk, opens the root and runs the script. The arm is given back in each case.
-fn run_opened<D: Disk, A: Annals, S: Source, K: Sink, G: Gate>(
+fn run_opened<W: Wait, D: Disk, A: Annals, S: Source, K: Sink, G: Gate>(
+    rt: &W,
     alloc: Global,
     line: &CommandLine<'_>,
     source: &mut S,
@@ -333,6 +309,7 @@ fn run_opened<D: Disk, A: Annals, S: Source, K: Sink, G: Gate>(
         mut disk,
         annals,
     } = run_root(
+        rt,
         alloc,
         opened,
         source,
@@ -361,8 +338,13 @@ fn line_of<'a>(alloc: Global, words: &'a [String]) -> Result<CommandLine<'a>, St
     }
 }
 
-/// Runs a script over the root of a folder, as `run` does, and waits for nobody: so it returns.
-pub fn run_alone<D: Disk, A: Annals, S: Source, K: Sink, G: Gate>(
+/// Runs a script over the root of a folder, as an earlier run left it, and refuses a root that is damaged.
+///
+/// The status is 0 where all statements were answered, 1 where one of them was refused for what the script says, 2 where the words
+/// are no command line, 3 where the source failed, 4 where the sink failed, 5 where the disk's count of faults rose, 6 for want of
+/// memory, 7 where the root is damaged, and 8 where 2^40 bytes were read and no end was met.
+pub fn run<R: Threads + Wait + Sync, D: Disk, A: Annals, S: Source, K: Sink, G: Gate>(
+    rt: &R,
     alloc: Global,
     words: &[String],
     source: &mut S,
@@ -389,36 +371,13 @@ pub fn run_alone<D: Disk, A: Annals, S: Source, K: Sink, G: Gate>(
             };
         }
     };
-    let Ended { end, disk, annals } = run_opened(alloc, &line, source, sink, disk, annals, gate);
+    let Ended { end, disk, annals } = run_opened(
+        rt, alloc, &line, source, sink, disk, annals, gate,
+    );
     let status = end.number();
     Done {
         status,
         disk,
         annals,
     }
-}
-
-/// Runs a script over the root of a folder, as an earlier run left it, and refuses a root that is damaged.
-///
-/// The status is 0 where all statements were answered, 1 where one of them was refused for what the script says, 2 where the words
-/// are no command line, 3 where the source failed, 4 where the sink failed, 5 where the disk's count of faults rose, 6 for want of
-/// memory, 7 where the root is damaged, and 8 where 2^40 bytes were read and no end was met.
-pub fn run<R: Threads + Wait + Sync, D: Disk, A: Annals, S: Source, K: Sink, G: Gate>(
-    _rt: &R,
-    alloc: Global,
-    words: &[String],
-    source: &mut S,
-    sink: &mut K,
-    disk: D,
-    annals: A,
-    gate: &mut G,
-) -> Done<D, A>
-    ensures promises { Promises words.now
-        (world_of D.Disk A.Annals S.Source K.Sink (disk, annals) source.old sink.old) result.status
-        (world_of D.Disk A.Annals S.Source K.Sink (result.disk, result.annals) source.new sink.new) }
-    ensures untouched { (command_of words.now ≡ None) ⊎ (D.failed disk ≡ 2 ^ 64 - 1)
-        → (source.new ≡ source.old) × (sink.new ≡ sink.old) × (result.disk ≡ disk)
-        × (result.annals ≡ annals) }
-{
-    run_alone(alloc, words, source, sink, disk, annals, gate)
 }

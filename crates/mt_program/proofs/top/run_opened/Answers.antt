@@ -78,7 +78,7 @@ returns-clause-run g c =
           let arm = g.D.Arm.Arm.failed c.run_root-end.new.arm in
           let end = c.run_root-end.ensures.leaves kept starts.told script starts.annals_is here starts.stands tells starts.source_is in
           let s = stretch c.faults-opened.result (g.D.Disk.told c.started_arm.new.disk) ran arm end.full in
-          let n : Outside = record { opened = before.storage.failed; ended = after.storage.failed; full = end.full } in
+          let n : Outside = record { opened = before.storage.failed; ended = after.storage.failed; full = end.full; company = false } in
           let opened = c.faults-opened.ensures in
           let later = c.run_root-end.ensures.disk_later in
           let low : c.faults-opened.result ≤ g.D.Disk.failed c.run_root-end.result.disk = omega arith in
@@ -98,7 +98,7 @@ returns-clause-run g c =
             not.1,
           ) in
           by_status c.status_at_end-end.ensures
-          (leaves_all before after kept script written s n (record { opened = refl; ended = refl; full = λ is told there. end.only is told (sym c.take_back.ensures.told ∙ there) }) f refl c.take_back.ensures.told starts.sink_is (nat_lt c.faults-opened.result c.faults.result) c.run_root-end.result.end starts.stands.legal
+          (leaves_all before after kept script written s n (record { opened = refl; ended = refl; full = λ is told there. end.only is told (sym c.take_back.ensures.told ∙ there); alone = refl }) f refl c.take_back.ensures.told starts.sink_is (nat_lt c.faults-opened.result c.faults.result) c.run_root-end.result.end starts.stands.legal
           (root_told (g.D.Disk.told c.started_arm.new.disk) starts.told (history kept) here starts.stands) (c.run_root-end.ensures.sound kept starts.told starts.annals_is here starts.stands tells) c.run_root-end.ensures.early
           (c.run_root-end.ensures.whole script starts.source_is) same end.left);
       opening = λ told damage known damaged.

@@ -1,7 +1,7 @@
 use Rattle.std.proofs.Common.{◌∙◌, inl, inr, sym}
 use Rattle.command_line.specs.Words.{said}
 use Rattle.mt_program.proofs.Promising.{not_some, promised, unread}
-use Rattle.mt_program.proofs.top.run_alone.Goals as goal
+use Rattle.mt_program.proofs.top.run.Goals as goal
 
 -- the run ended at its words
 pub returns-in-Err-clause-promises : goal.returns-in-Err-clause-promises
