@@ -29,6 +29,7 @@ HERE = os.path.dirname(os.path.realpath(__file__))
 CASES = os.path.join(HERE, "..", "crates", "run_cases")
 BUILT = os.path.join(HERE, "built", "cases")
 BITS = {b"UInt8": 8, b"UInt16": 16, b"UInt32": 32, b"UInt64": 64, b"Int8": 8, b"Int16": 16, b"Int32": 32, b"Int64": 64}
+MOST_LEVEL = 4294967295
 FUNCTIONS = [b"any", b"anyLast", b"min", b"max", b"sum", b"groupBitAnd", b"groupBitOr", b"groupBitXor"]
 PLAIN, REPLACING, SUMMING = b"MergeTree", b"ReplacingMergeTree", b"SummingMergeTree"
 COLLAPSING, VERSIONED, AGGREGATING = b"CollapsingMergeTree", b"VersionedCollapsingMergeTree", b"AggregatingMergeTree"
@@ -893,6 +894,8 @@ class Store:
         self.disk.read(sources, len(schema["columns"]))
         part = merged(schema, sources)
         self.write(schema, part["rows"])
+        if part["level"] > MOST_LEVEL:
+            raise Refused(f"E12 levels {MOST_LEVEL}")
         self.turn(part, 0)
         parts[:] = [part if each is sources[0] else each for each in parts if all(each is not source for source in sources[1:])]
 
@@ -906,6 +909,7 @@ class Store:
                 self.merge(schema, parts, own)
                 continue
             pairs = [pair for pair in zip(own, own[1:]) if self.policy != b"near" or are_near(*pair)]
+            pairs = [pair for pair in pairs if max(part["level"] for part in pair) < MOST_LEVEL]
             if pairs:
                 self.merge(schema, parts, pairs[-1 if self.policy == b"tail" else 0])
                 break

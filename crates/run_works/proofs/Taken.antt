@@ -1,17 +1,17 @@
 -- Works that were taken up, and the schema of a table that is pinned.
-use Rattle.std.proofs.Common.{◌≡◌, Option, Some, None, Result, Ok, IfOk, IfSome, List, ℕ, sym, subst}
+use Rattle.std.proofs.Common.{◌≡◌, ◌<◌, Option, Some, None, Result, Ok, IfOk, IfSome, List, ℕ, length, sym, ap, subst, arith}
 use Rattle.std.specs.Option.{ok_or}
-use Rattle.mt_outside.specs.Files.{Files}
-use Rattle.session.proofs.MergeSteps.{work_schema}
-use Rattle.session.proofs.Putting.{some_of_work}
-use Rattle.session.proofs.Taking.{taken_pair}
+use Rattle.session.proofs.SharedStoreStanding.{long_run}
 use Rattle.session.specs.mt_model.History.{IsTableSchema}
 use Rattle.session.specs.shared_store.Engines.{GoesOn, IsOpen, Opened, Snaps}
-use Rattle.session.specs.shared_store.Works.{TakesPair}
+use Rattle.session.specs.shared_store.Works.{TakesPair, TakesUp, parts_beside}
 use Rattle.session.specs.shared_store.declared.work.Work.{Work}
 use Rattle.session.specs.shared_store.mutation_queue.declared.scope.Scope.{Scope}
 use Rattle.session.specs.shared_store.part_reader.declared.reading.Part.{Part}
+use Rattle.session.specs.shared_store.part_set.declared.kept.Kept.{Kept}
 use Rattle.session.specs.shared_store.part_set.declared.kept.Snap.{Snap}
+use Rattle.session.specs.shared_store.part_set.declared.run.Run.{Run}
+use Rattle.session.specs.shared_store.root_store.declared.store.CoreStore.{CoreStore}
 use Rattle.run_works.specs.Works.{MayBeMerged}
 
 -- what is there where an error else is answered
@@ -26,17 +26,24 @@ pub some_there : {T E : Type 0} (found : Option T) (why : E) (answer : Result T 
 some_there (Some y) why answer x is there = cc
 some_there None why answer x is there = cc
 
--- of no folder the files are known
-no_files : {F : Type 0} → F → Option Files
-no_files dir = None
+-- a work that was taken up has a source, since its run has a part
+some_taken : {F : Type 0} (was now : CoreStore F) (work : Work F) (run : Run) → TakesUp was now work run → 0 < length work.sources.items
+some_taken {F} was now work run t =
+    let long = long_run run (parts_beside was work) t.is in
+    let one = t.is.some in
+    let same = ap (λ (ks : List (Kept (Part F))). length ks) t.sources_are in
+    omega (arith, long, one, same)
 
 -- a pair that is taken up may be merged
 pub may_be_merged : {F : Type 0} (scope : Scope) (was now : Opened F) (found : Option (Work F))
     → GoesOn was now → TakesPair scope was now (Ok found) → IfSome found MayBeMerged
 may_be_merged scope was now None goes takes = tt
 may_be_merged scope was now (Some work) goes takes =
-    let taken = taken_pair no_files was now work goes scope takes in
-    record { some = some_of_work no_files was now work _ taken; schema = work_schema no_files was now work _ taken }
+    let t = takes.2.takes in
+    record {
+      some = some_taken was.store now.store work takes.0 t;
+      schema = subst IsTableSchema (sym t.schema_is) (goes.found.sound.tables work.table t.made t.there).schema;
+    }
 
 -- the schema of a snapshot is that of a table
 pub snap_schema : {F : Type 0} (root : Opened F) (table : List ℕ) (found : Option (Snap (Part F))) (snap : Snap (Part F))

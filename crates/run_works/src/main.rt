@@ -1,18 +1,19 @@
 //! Cases of two works that are open at once, which no script makes: put and let go in each order, and put where a source is gone.
 //!
-//! Each begins with a new root over the disk in memory, in which a table has four parts of one row each. After each step the visible
-//! parts are printed in block order, with a `*` after each that bears a mark. Standard output is compared with what is wanted.
+//! Each begins with a root over the disk in memory that a run of the program made, in which a table has four parts of one row each. After
+//! each step the visible parts are printed in block order, with a `*` after each that bears a mark. Standard output is compared with what
+//! is wanted.
 #![tactic(auto)]
 
-ghost use Rattle.std.specs.Prelude.{IfOk};
+ghost use Rattle.std.specs.Prelude.{◌≡◌, IfOk};
 ghost use Rattle.run_works.specs.Works.{MayBeMerged};
 
-use disk_mem::{KeptAnnals, MemArm, MemDir, MemDisk};
+use disk_mem::{KeptAnnals, MemArm, MemDir, MemDisk, MemSink, MemSource, OpenGate};
 use mt_base::{Name, NoMemory, Partition, Policy, Seq, Twin};
 use mt_outside::{Disk, DiskError};
-use mt_values::Statement;
+use mt_program::{Done, run};
 use root_log::open;
-use root_log::sql_read::{Next, next_statement};
+use session::give_back_part;
 use session::row_merge::merge_parts;
 use session::shared_store::merge_select::Scope;
 use session::shared_store::part_name::text;
@@ -20,9 +21,10 @@ use session::shared_store::part_reader::Part;
 use session::shared_store::part_set::Kept;
 use session::shared_store::root_commits::Returned;
 use session::shared_store::{Engine, Put, Work};
-use session::{create, give_back_part, insert};
 use std::alloc::Global;
 use std::io;
+use std::sync::Wait;
+use std::thread::Threads;
 use thiserror::Error;
 
 /// What becomes of two works.
@@ -81,31 +83,13 @@ fn copies(alloc: Global, parts: &[Shown]) -> Result<Vec<Shown>, NoMemory> {
 }
 
 impl Root {
-    /// Makes the table, takes up two works and tells what becomes of them, and then takes up and puts a third.
+    /// Takes up two works and tells what becomes of them, and then takes up and puts a third.
     fn show(&mut self, case: Case) -> Result<(), Fault> {
-        self.run(b"CREATE TABLE t (a UInt8) ENGINE = MergeTree ORDER BY a;")?;
-        for _part in 0..4 {
-            self.run(b"INSERT INTO t;\n1\n\\.\n")?;
-        }
         let first = self.take();
         let second = self.take();
         self.end(case, first, second)?;
         let third = self.take();
         self.put("third", third)
-    }
-
-    /// Runs a CREATE or an INSERT, which is accepted.
-    fn run(&mut self, text: &[u8]) -> Result<(), Fault> {
-        let (alloc, engine, arm) = (self.alloc, &mut self.engine, &mut self.arm);
-        let Next::Found(statement, _) = next_statement(alloc, text, true) else {
-            return Err(Fault::Refused);
-        };
-        let reply = match statement {
-            Statement::Create(text) => create(alloc, engine, arm, &text)?,
-            Statement::Insert(text) => insert(alloc, engine, arm, &text)?,
-            _ => return Err(Fault::Refused),
-        };
-        (reply.code() == 0).then_some(()).ok_or(Fault::Refused)
     }
 
     /// Tells what was done with a work, and the visible parts then.
@@ -201,10 +185,63 @@ impl Root {
     }
 }
 
-/// What a case comes to, over a new root.
-fn told(alloc: Global, case: Case) -> Result<String, Fault> {
+/// The words of the command line.
+fn words(alloc: Global) -> Result<Vec<String>, NoMemory> {
+    let mut words = Vec::new(alloc);
+    for word in ["mergetree", "--path", "d"] {
+        words.push(String::from_str(alloc, word)?)?;
+    }
+    Ok(words)
+}
+
+/// The pieces of the script that makes the table, and its parts by an INSERT each.
+fn script(alloc: Global) -> Result<Vec<Vec<u8>>, NoMemory> {
+    let mut pieces = Vec::new(alloc);
+    let table = b"CREATE TABLE t (a UInt8) ENGINE = MergeTree ORDER BY a;\n";
+    pieces.push(Vec::from_slice(alloc, table)?)?;
+    for _part in 0..4 {
+        pieces.push(Vec::from_slice(alloc, b"INSERT INTO t;\n1\n\\.\n")?)?;
+    }
+    Ok(pieces)
+}
+
+/// A disk on which the program made the table and its parts, and of which no call failed.
+fn made<R: Threads + Wait + Sync>(rt: &R, alloc: Global) -> Result<MemDisk, Fault>
+    ensures { IfOk result (λ disk. disk.plan.failed ≡ 0) }
+{
+    let words = words(alloc)?;
+    let mut source = MemSource::new(script(alloc)?, Vec::new(alloc));
+    let mut sink = MemSink::new(alloc, Vec::new(alloc));
+    let disk = MemDisk::new(alloc)?;
+    let annals = KeptAnnals::new(alloc);
+    let gate = &mut OpenGate;
+    let Done {
+        status,
+        disk,
+        annals: _,
+    } = run(
+        rt,
+        alloc,
+        &words,
+        &mut source,
+        &mut sink,
+        disk,
+        annals,
+        gate,
+    );
+    if status > 0 {
+        return Err(Fault::Refused);
+    }
+    if disk.faults() > 0 {
+        return Err(Fault::Refused);
+    }
+    Ok(disk)
+}
+
+/// What a case comes to, over a root that was made anew.
+fn told<R: Threads + Wait + Sync>(rt: &R, alloc: Global, case: Case) -> Result<String, Fault> {
     let table = Seq::from_slice(alloc, b"t")?;
-    let mut disk = MemDisk::new(alloc)?;
+    let mut disk = made(rt, alloc)?;
     let mut arm = disk.arm(alloc)?;
     let Ok(store) = open(alloc, &mut disk, &mut arm) else {
         disk.take_back(arm);
@@ -240,7 +277,7 @@ fn main(rt: HostRuntime) -> io::Result<()> {
         (Case::SourceGone, "put where a source is gone"),
     ] {
         println!(rt; "{name}")?;
-        match told(rt.alloc(), case) {
+        match told(&rt, rt.alloc(), case) {
             Ok(text) => rt.print(text.as_str())?,
             Err(fault) => println!(rt; "  ? {fault}")?,
         }
