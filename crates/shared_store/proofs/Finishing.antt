@@ -11,7 +11,7 @@ use Rattle.shared_store.specs.Levels.{has_greatest}
 use Rattle.shared_store.specs.Sharing.{AtOpening, Finished, begun_now}
 use Rattle.shared_store.specs.Stood.{ListsMore, Premise, is_listed, is_noted, is_rooted, is_safe, is_told}
 use Rattle.shared_store.specs.Tallies.{Tally}
-use Rattle.shared_store.proofs.Keeping.{above}
+use Rattle.shared_store.proofs.Risen.{above}
 
 module _ {F : Type 0} (files_of : F → Option Files) (given : Premise → Type 0) (before : History) (o : AtOpening) (whole : ℕ) (now : Storage) (started : Option (List ℕ)) (seats : List View) (share : Tally)
     (f : Finished files_of given before o whole now started seats share) where

@@ -17,8 +17,8 @@ use Rattle.root_commits.specs.part_reader.Parts.{PartHolds}
 use Rattle.root_commits.specs.part_set.declared.kept.Kept.{Kept}
 use Rattle.root_commits.specs.part_set.declared.kept.Snap.{Snap}
 use Rattle.root_commits.specs.part_set.declared.run.Run.{Run}
-use Rattle.root_commits.specs.part_set.Parts.{kept_in}
-use Rattle.root_commits.specs.part_set.Runs.{parts_of_run}
+use Rattle.root_commits.specs.part_set.Parts.{IsInBlockOrder, kept_in}
+use Rattle.root_commits.specs.part_set.Runs.{EndsInOrder, parts_of_run}
 use Rattle.root_commits.specs.part_set.Sets.{parts_of}
 use Rattle.root_commits.specs.root_store.declared.store.CoreStore.{CoreStore}
 use Rattle.root_commits.specs.root_store.declared.store.Table.{Table}
@@ -29,13 +29,14 @@ use Rattle.root_commits.proofs.PartSetShelving.{mine_within}
 use Rattle.root_commits.proofs.RunStands.{run_held, run_reach, run_rows}
 use Rattle.shared_store.specs.declared.work.Work.{Work}
 use Rattle.shared_store.specs.Engines.{IsOpen, IsSnapOf, Opened, Snaps, choice_of, schema_kept}
-use Rattle.shared_store.specs.Handed.{GivesSchema, IsHanded, IsPinned, IsSchemaOf, Pins, SourcesHold}
+use Rattle.shared_store.specs.Handed.{AreNeighbours, GivesSchema, IsHanded, IsPinned, IsSchemaOf, Pins, SourcesHold}
 use Rattle.shared_store.specs.Levels.{any_greatest}
 use Rattle.shared_store.specs.Sharing.{AtOpening, IsShared, Shown, schema_there}
 use Rattle.shared_store.specs.Stood.{Premise, is_listed, is_told}
 use Rattle.shared_store.specs.Works.{IsPicked, TakesUp, TakesWork, parts_beside}
+use Rattle.shared_store.proofs.Neighbours.{run_neighbours, run_ordered}
 use Rattle.shared_store.proofs.Picked.{picked_low}
-use Rattle.shared_store.proofs.Standing.{long_run, partition_is}
+use Rattle.shared_store.proofs.Standing.{long_run, ordered_before, partition_is}
 
 module _ {F : Type 0} (files_of : F → Option Files) (given : Premise → Type 0) (before : History) (o : AtOpening) (s : Shown F) (shared : IsShared files_of given before o s) (ready : IsOpen s.root) where
   -- the lists have each table with the schema that the store has
@@ -86,6 +87,13 @@ module _ {F : Type 0} (files_of : F → Option Files) (given : Premise → Type 
     abbrev run_parts : List (Kept (Part F))
     run_parts = parts_of_run run (parts_beside s.root.store work)
 
+    -- the parts of its table stand in block order
+    in_order : IsInBlockOrder (parts_of s.root.store.set work.table)
+    in_order = ordered_before work.partition run true (parts_of s.root.store.set work.table) (parts_of now.set work.table) t.marks.marked t.marks.ordered
+
+    in_ends : All EndsInOrder (parts_of s.root.store.set work.table)
+    in_ends = (ready.sound.tables work.table t.made t.there).order
+
     sources_hold : given is_told → given is_listed → SourcesHold files_of (before ++ s.list) work
     sources_hold told known =
         let stands = (shared.stood.listed told known).stands in
@@ -101,6 +109,9 @@ module _ {F : Type 0} (files_of : F → Option Files) (given : Premise → Type 
           reach =
               subst (λ (ks : List (Kept (Part F))). AllZip (λ (name : PartName) (r : List Row). PartStands (before ++ s.list) (record { table = work.table; name = name; rows = r })) (map (λ (k : Kept (Part F)). k.name) ks) rows)
               (sym t.sources_are) (run_reach files_of s.root.store work.table work.partition run t.made t.there t.is (before ++ s.list) stands);
+          neighbours =
+              subst (λ (ks : List (Kept (Part F))). AreNeighbours (before ++ s.list) work.table work.partition (map (λ (k : Kept (Part F)). k.name) ks)) (sym t.sources_are)
+              (run_neighbours files_of s.root.store work.table work.partition run t.made t.there (before ++ s.list) stands in_order in_ends);
         }
 
     -- the parts of a run are among those of their table
@@ -121,6 +132,7 @@ module _ {F : Type 0} (files_of : F → Option Files) (given : Premise → Type 
     handed = record {
       some = (let long = long_run run (parts_beside s.root.store work) t.is in let one = t.is.some in let same = ap (λ (ks : List (Kept (Part F))). length ks) t.sources_are in omega (arith, long, one, same));
       own = subst (All (λ (k : Kept (Part F)). k.name.partition ≡ work.partition)) (sym t.sources_are) sources_own;
+      ordered = subst (λ (ks : List (Kept (Part F))). IsInBlockOrder ks) (sym t.sources_are) (run_ordered s.root.store work.table work.partition run in_order);
       there = there_schema work.table t.made t.there ∙ ap (λ (x : Schema). Some x) (sym t.schema_is);
       schema = subst IsTableSchema (sym t.schema_is) (ready.sound.tables work.table t.made t.there).schema;
       reach = sources_hold;

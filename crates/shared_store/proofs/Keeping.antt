@@ -1,7 +1,5 @@
 -- What a lock keeps through each turn.
-use Rattle.std.proofs.Common.{◌≡◌, ℕ, ◌+◌, ◌<◌, ◌≤◌, ◌-◌, Bool, true, false, true≢false, List, [], ◌∷◌, ◌++◌, append-nil, append_assoc, length, All, Option, Some, None, Result, Ok, Err, inl, inr, refl, sym, ap, ◌∙◌, subst, arith, ap₂}
-use Rattle.std.proofs.lemmas.Bool.{cases_lt}
-use Rattle.mt_base.specs.declared.policy.Policy.{Policy}
+use Rattle.std.proofs.Common.{◌≡◌, ℕ, ◌+◌, ◌<◌, ◌≤◌, ◌-◌, Bool, true, false, true≢false, List, [], ◌∷◌, ◌++◌, append_assoc, length, All, Option, Some, None, Result, Ok, Err, refl, sym, ap, ◌∙◌, subst, arith, ap₂}
 use Rattle.mt_values.specs.declared.command.Command.TheVariants as command
 use Rattle.mt_values.specs.declared.command.Create.{Create}
 use Rattle.mt_values.specs.declared.command.Entry.{Entry}
@@ -17,7 +15,6 @@ use Rattle.root_commits.specs.part_set.declared.run.Run.{Run}
 use Rattle.root_commits.specs.stage_dir.Stages.{Filled}
 use Rattle.root_commits.specs.root_store.declared.store.CoreStore.{CoreStore}
 use Rattle.root_commits.specs.root_store.declared.store.Table.{Table}
-use Rattle.root_commits.specs.root_store.Shown.{HasNoMark}
 use Rattle.root_commits.specs.root_store.Stores.{table_at}
 use Rattle.root_commits.specs.declared.commits.Returned.{Returned}
 use Rattle.root_commits.specs.Commits.{IsCause, IsSealedEntry, IsSealedOf, cause_of, insert_into, partition_of_block, refuses_part}
@@ -26,9 +23,9 @@ use Rattle.root_commits.specs.Turns.{CommitsCreate, CommitsPart}
 use Rattle.root_commits.proofs.Turning.{after_refusal}
 use Rattle.root_commits.proofs.Updated.{one_some}
 use Rattle.shared_store.specs.declared.work.Work.{Work}
-use Rattle.shared_store.specs.Engines.{GoesOn, Opened, opened_of, root_in}
+use Rattle.shared_store.specs.Engines.{GoesOn, Opened, root_in}
 use Rattle.shared_store.specs.Levels.{has_greatest}
-use Rattle.shared_store.specs.Sharing.{AtOpening, Fits, IsShared, KnowsAll, Shown, begun_now, shown}
+use Rattle.shared_store.specs.Sharing.{AtOpening, Fits, IsShared, KnowsAll, Shown, begun_now}
 use Rattle.shared_store.specs.Stood.{Premise, Stood, is_told}
 use Rattle.shared_store.specs.Tallies.{Tally, levels_in, stops_in, tally}
 use Rattle.shared_store.specs.Turns.{AtTurn, CountsTurn, GivesBack, HasTurn, ShowsCreate, ShowsPart, left_of}
@@ -36,17 +33,13 @@ use Rattle.shared_store.specs.Works.{DropsWork, Frees, TakesWork}
 use Rattle.shared_store.proofs.AllFreed.{freed_alike, freed_idle}
 use Rattle.shared_store.proofs.Levels.{create_levels, levels_alike, levels_taken, part_levels, parts_added, parts_created, parts_dropped}
 use Rattle.shared_store.proofs.Marking.{cleared_alike, marked_alike}
-use Rattle.shared_store.proofs.Risen.{calm_stops, counts_risen, create_calm, create_risen, part_calm, part_risen, publishes_risen, tally_as}
+use Rattle.shared_store.proofs.Risen.{above, calm_stops, counts_risen, create_calm, create_risen, part_calm, part_risen, publishes_risen, tally_as}
 use Rattle.shared_store.proofs.Schemas.{fits_added, fits_created, fits_kept}
 use Rattle.shared_store.proofs.Stands.{stood_added, stood_alike, stood_created, stood_not_added, stood_not_created}
 
 pub not_true : (b c : Bool) → (b ≡ true → c ≡ true) → c ≡ false → b ≡ false
 not_true true c then is = absurd (true≢false (sym (then refl) ∙ is))
 not_true false c then is = refl
-
--- a number that is another's at least, and not that, is above it
-pub above : (m n : ℕ) → m ≤ n → (n ≡ m → ⊥) → m < n
-above m n low apart = elim (cases_lt m n) [ inl less ↦ less | inr most ↦ absurd (apart (omega (arith, low, most))) ]
 
 -- what is begun after a commit that was accepted, and after one that was refused
 begun_added : (first : Option Entry) (list : History) (e : Entry) → begun_now first (list ++ e ∷ []) None ≡ None
@@ -120,7 +113,8 @@ module _ {F : Type 0} (files_of : F → Option Files) (given : Premise → Type 
     opened_is = s.opened_is;
     fits = s.fits;
     stands = λ told known. (s.stood.listed told known).stands;
-    later = low;
+    since = s.since;
+    below = s.below;
     risen = λ some. above o.failed was.root.storage.failed low (λ calm. let none = s.no_stop calm in let bound = least.stops in omega (arith, none, bound, some));
     met = (let met = s.met in let bound = least.faults in omega (arith, met, bound));
     all = λ all. s.met ∙ ap (λ (n : ℕ). o.shared + n) (sym (least.all all));
@@ -129,27 +123,6 @@ module _ {F : Type 0} (files_of : F → Option Files) (given : Premise → Type 
     where
       low : o.failed ≤ was.root.storage.failed
       low = let since = s.since in let met = s.met in omega (arith, since, met)
-
-  -- ---- the opening
-
-  pub shared_opened : (root : Opened F) (store : CoreStore F) (policy : Policy) (outside : Storage) (started : Option (List ℕ)) → root.store ≡ store → root.policy ≡ policy → root.storage ≡ outside → root.started ≡ started → store.opened ≡ o.failed → policy ≡ o.policy → o.failed ≤ o.shared → outside.failed ≡ o.shared → started ≡ o.started → HasNoMark store → Fits before o.tables [] store
-      → Stood files_of given 0 None o.begun before (opened_of store policy outside started) → Shares (shown root [] None 0 0 0 0)
-  shared_opened root store policy outside started store_is policy_is storage_is started_is opened chosen since first folder idle fits stood =
-      subst (λ (r : Opened F). Shares (shown r [] None 0 0 0 0)) (sym whole) (record {
-        opened_is = opened;
-        policy_is = chosen;
-        started_is = folder;
-        fits = fits;
-        stood = subst (λ (h : History). Stood files_of given 0 None o.begun h (opened_of store policy outside started)) (sym (append-nil before)) stood;
-        idle = λ _. idle;
-        no_stop = λ _. refl;
-        no_level = λ _. refl;
-        since = since;
-        met = omega (arith, first);
-      })
-    where
-      whole : root ≡ opened_of store policy outside started
-      whole = λ i. record { store = store_is i; policy = policy_is i; storage = storage_is i; started = started_is i }
 
   -- ---- a CREATE
 
@@ -176,6 +149,7 @@ module _ {F : Type 0} (files_of : F → Option Files) (given : Premise → Type 
           no_stop = λ calm. stops ∙ s.no_stop (calm_before was now s goes calm);
           no_level = λ none. levels ∙ s.no_level (not_true (has_greatest was.root.store) (has_greatest now.root.store) parts.levels none);
           since = s.since;
+          below = s.below;
           met = counted_faults was now s goes faults;
         }
 
@@ -201,6 +175,7 @@ module _ {F : Type 0} (files_of : F → Option Files) (given : Premise → Type 
                 omega (arith, stops, still, none);
             no_level = λ none. levels ∙ s.no_level (not_true (has_greatest was.root.store) (has_greatest now.root.store) parts.levels none);
             since = s.since;
+            below = s.below;
             met = counted_faults was now s goes faults;
           }
 
@@ -249,6 +224,7 @@ module _ {F : Type 0} (files_of : F → Option Files) (given : Premise → Type 
           no_stop = λ calm. stops ∙ s.no_stop (calm_before was now s goes calm);
           no_level = λ none. levels ∙ s.no_level (not_true (has_greatest was.root.store) (has_greatest now.root.store) parts.levels none);
           since = s.since;
+          below = s.below;
           met = counted_faults was now s goes faults;
         }
 
@@ -274,6 +250,7 @@ module _ {F : Type 0} (files_of : F → Option Files) (given : Premise → Type 
                 omega (arith, stops, still, none);
             no_level = λ none. levels ∙ s.no_level (not_true (has_greatest was.root.store) (has_greatest now.root.store) parts.levels none);
             since = s.since;
+            below = s.below;
             met = counted_faults was now s goes faults;
           }
 
@@ -313,6 +290,7 @@ module _ {F : Type 0} (files_of : F → Option Files) (given : Premise → Type 
           no_stop = λ calm. stops ∙ s.no_stop (calm_before was now s goes calm);
           no_level = λ none. levels ∙ s.no_level (not_true (has_greatest was.root.store) (has_greatest now.root.store) (levels_taken was.root now.root work run goes.left t) none);
           since = s.since;
+          below = s.below;
           met = same_faults was now s t.storage_is faults;
         }
 
@@ -329,6 +307,7 @@ module _ {F : Type 0} (files_of : F → Option Files) (given : Premise → Type 
           no_stop = λ calm. stops ∙ s.no_stop (calm_before was now s goes calm);
           no_level = λ none. levels ∙ s.no_level (not_true (has_greatest was.root.store) (has_greatest now.root.store) (parts_dropped was.root now.root work goes.left d).levels none);
           since = s.since;
+          below = s.below;
           met = same_faults was now s d.storage_is faults;
         }
 
@@ -346,6 +325,7 @@ module _ {F : Type 0} (files_of : F → Option Files) (given : Premise → Type 
           no_stop = λ calm. stops ∙ s.no_stop (calm_before was now s goes calm);
           no_level = λ none. levels ∙ s.no_level (not_true (has_greatest was.root.store) (has_greatest now.root.store) (levels_alike was.root.store now.root.store goes.left.sound alike) none);
           since = s.since;
+          below = s.below;
           met = same_faults was now s f.storage_is faults;
         }
 

@@ -9,6 +9,7 @@ pub mod Levels
 pub mod Marked
 pub mod Marking
 pub mod Merging
+pub mod Neighbours
 pub mod Opening
 pub mod Others
 pub mod Picked

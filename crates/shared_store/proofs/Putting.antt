@@ -294,6 +294,7 @@ module _ {F S : Type 0} (files_of : F → Option Files) (given : Premise → Typ
         let low = low_put files_of work sealed loaded was.root now.root part goes result d none_was in
         omega (arith, levels, still, low);
     since = s.since;
+    below = s.below;
     met = (let later = goes.later in let met = s.met in omega (arith, faults, later, met));
   }
 

@@ -1,5 +1,6 @@
 -- When a stop is counted, and by how much the disk's count rises in a turn.
-use Rattle.std.proofs.Common.{◌≡◌, ◌≢◌, ℕ, ◌+◌, ◌-◌, ◌<◌, ◌≤◌, ◌^◌, Bool, true, false, cond, is_some, length, List, nat_le, nat_lt, Option, Some, None, Result, Ok, Err, refl, sym, ap, subst, arith}
+use Rattle.std.proofs.Common.{◌≡◌, ◌≢◌, ℕ, ◌+◌, ◌-◌, ◌<◌, ◌≤◌, ◌^◌, Bool, true, false, cond, is_some, length, List, nat_le, nat_lt, Option, Some, None, Result, Ok, Err, inl, inr, refl, sym, ap, subst, arith}
+use Rattle.std.proofs.lemmas.Bool.{cases_lt}
 use Rattle.std.proofs.lemmas.Bool.Decides.{nat_tests}
 use Rattle.std.specs.Option.{MatchOption}
 use Rattle.mt_base.specs.declared.partition.Partition.{Partition}
@@ -18,6 +19,12 @@ use Rattle.root_commits.specs.Commits.{IsCause, cause_of, refuses_create, refuse
 use Rattle.root_commits.specs.Publications.{IsKeptBack, Publishes}
 use Rattle.shared_store.specs.Tallies.{Tally, levels_in, stops_by, stops_in, tally}
 use Rattle.shared_store.specs.Turns.{Counts}
+
+-- ---- numbers
+
+-- a number that is another's at least, and not that, is above it
+pub above : (m n : ℕ) → m ≤ n → (n ≡ m → ⊥) → m < n
+above m n low apart = elim (cases_lt m n) [ inl less ↦ less | inr most ↦ absurd (apart (omega (arith, low, most))) ]
 
 -- ---- what a store shows
 

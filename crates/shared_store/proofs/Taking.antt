@@ -1,5 +1,5 @@
 -- What a turn found of the parts that it takes, or does not take.
-use Rattle.std.proofs.Common.{◌≡◌, ℕ, List, Option, Some, Ok, sym, subst}
+use Rattle.std.proofs.Common.{◌≡◌, ℕ, IfOk, IfSome, List, Option, Some, None, Result, Ok, Err, sym, subst}
 use Rattle.mt_base.specs.declared.partition.Partition.{Partition}
 use Rattle.mt_base.specs.declared.policy.Policy.{Policy}
 use Rattle.mt_outside.specs.Files.{Files}
@@ -15,6 +15,12 @@ use Rattle.shared_store.specs.Tallies.{Tally}
 use Rattle.shared_store.specs.Turns.{AtTurn}
 use Rattle.shared_store.specs.Works.{AnswersWhole, HasAll, HasPair, IsPicked, TakesWork}
 use Rattle.shared_store.proofs.Keeping.{IsAudited, at_turn}
+
+-- what is said in two ways of what was found
+pub both_found : {X E : Type 0} (P Q R : X → Type 0) (r : Result (Option X) E) → ((x : X) → P x → Q x → R x) → IfOk r (λ (o : Option X). IfSome o P) → IfOk r (λ (o : Option X). IfSome o Q) → IfOk r (λ (o : Option X). IfSome o R)
+both_found P Q R (Ok (Some x)) f first second = f x first second
+both_found P Q R (Ok None) f first second = tt
+both_found P Q R (Err e) f first second = tt
 
 module _ {F : Type 0} (files_of : F → Option Files) (given : Premise → Type 0) (before : History) (o : AtOpening) (was : Shown F) (s : IsShared files_of given before o was) (whole : ℕ) (t : Tally) (least : IsAudited whole t was) where
   -- no pair may be taken

@@ -1,5 +1,5 @@
 -- What a snapshot shows, what is known of a work, and what is asked of a block and of a merge, by the list that a seat or a note knows (docs/architecture.md, "The lock").
-use Rattle.std.specs.Prelude.{◌≡◌, ℕ, ◌+◌, ◌<◌, ◌++◌, List, Option, None, Some, Err, length, All}
+use Rattle.std.specs.Prelude.{◌≡◌, ℕ, ◌+◌, ◌<◌, ◌≤◌, ◌++◌, ◌∷◌, List, Option, None, Some, Err, length, All}
 use Rattle.std.specs.List.{AllZip}
 use Rattle.std.specs.Option.{MatchOption}
 use Rattle.mt_base.specs.declared.partition.Partition.{Partition}
@@ -11,6 +11,7 @@ use Rattle.mt_values.specs.Values.{Row}
 use Rattle.mt_outside.specs.Files.{Files}
 use Rattle.history_seat.specs.declared.view.View.{View}
 use Rattle.root_commits.specs.mt_model.History.{History, IsInsertInto, IsLegal, IsTableSchema, schema_of}
+use Rattle.root_commits.specs.mt_model.Numbers.{IsNumberOfInsert}
 use Rattle.root_commits.specs.part_history.Parts.{PartStands}
 use Rattle.root_commits.specs.part_name.declared.part.PartName.{PartName}
 use Rattle.root_commits.specs.part_reader.declared.reading.Part.{Part}
@@ -94,19 +95,26 @@ pub record Handing (F : Type 0) : Type 0 where
 abbrev pub handing : {F : Type 0} → Taken F → View → Handing F
 handing taken note = record { taken = taken; note = note }
 
--- the sources of a work hold rows that stand for a legal history under their names
+-- of parts of a table's partition that follow each other in this order, no INSERT into it has a number between the blocks of two neighbours (docs/definitions.md, "The core")
+abbrev pub AreNeighbours : History → List ℕ → Partition → List PartName → Type 0
+AreNeighbours h table partition names =
+    (front back : List PartName) (a b : PartName) → names ≡ front ++ a ∷ b ∷ back → (n : ℕ) → IsNumberOfInsert table partition n h → a.max_block < n → b.min_block ≤ n
+
+-- the sources of a work hold rows that stand for a legal history under their names, and no INSERT lies between two of them
 pub record SourcesHold {F : Type 0} (files_of : F → Option Files) (h : History) (work : Taken F) : Type 0 where
   pub legal : IsLegal h
   pub there : schema_of work.table h ≡ Some work.schema
   pub inputs : List (List Row)
   pub hold : AllZip (λ (k : Kept (Part F)) (rows : List Row). PartHolds files_of work.schema k.part rows) work.sources.items inputs
   pub reach : AllZip (λ (name : PartName) (rows : List Row). PartStands h (record { table = work.table; name = name; rows = rows })) (names_of_work work) inputs
+  pub neighbours : AreNeighbours h work.table work.partition (names_of_work work)
 
--- What is known of a work by the list as it was taken up: it has a source, all of its partition, and its schema is that of its table. So far as the premises held at opening, its
--- sources hold rows that stand for both lists.
+-- What is known of a work by the list as it was taken up: it has a source, all of its partition and in block order, and its schema is that of its table. So far as the premises
+-- held at opening, its sources hold rows that stand for both lists.
 pub record IsHanded {F : Type 0} (files_of : F → Option Files) (given : Premise → Type 0) (before : History) (o : AtOpening) (list : History) (work : Taken F) : Type 0 where
   pub some : 0 < length work.sources.items
   pub own : All (λ (k : Kept (Part F)). k.name.partition ≡ work.partition) work.sources.items
+  pub ordered : IsInBlockOrder work.sources.items
   pub there : schema_there o.tables list work.table ≡ Some work.schema
   pub schema : IsTableSchema work.schema
   pub reach : given is_told → given is_listed → SourcesHold files_of (before ++ list) work

@@ -1,5 +1,5 @@
 -- What a lock keeps between two turns, and what it leaves at the end (docs/architecture.md, "The lock").
-use Rattle.std.specs.Prelude.{◌≡◌, ℕ, ◌+◌, ◌≤◌, ◌++◌, ◌∷◌, [], false, List, Option, None, Some, length, All}
+use Rattle.std.specs.Prelude.{◌≡◌, ℕ, ◌+◌, ◌-◌, ◌^◌, ◌<◌, ◌≤◌, ◌++◌, ◌∷◌, [], false, List, Option, None, Some, length, All}
 use Rattle.mt_base.specs.declared.policy.Policy.{Policy}
 use Rattle.mt_values.specs.declared.command.Entry.{Entry}
 use Rattle.mt_values.specs.declared.schema.Schema.{Schema}
@@ -12,6 +12,7 @@ use Rattle.root_commits.specs.root_store.Shown.{HasNoMark}
 use Rattle.root_commits.specs.root_store.Stores.{table_at}
 use Rattle.root_commits.specs.durable_commit.Publications.{Storage}
 use Rattle.shared_store.specs.Engines.{IsOpen, Opened, schema_kept}
+use Rattle.shared_store.specs.declared.shared.Blanks.{Blanks}
 use Rattle.shared_store.specs.Levels.{has_greatest}
 use Rattle.shared_store.specs.Stood.{Premise, Stood}
 use Rattle.shared_store.specs.Tallies.{Tally}
@@ -33,6 +34,12 @@ pub record Ledgers : Type 0 where
   pub stops : ℕ
   pub levels : ℕ
   pub faults : ℕ
+
+-- blanks of ledgers have these names, and their shares are cut into as many parts
+abbrev pub AreLedgersOf : Ledgers → Blanks → Type 0
+AreLedgersOf l blanks =
+    (blanks.works.name ≡ l.works) × (blanks.works.parts ≡ l.parts) × (blanks.stops.name ≡ l.stops) × (blanks.stops.parts ≡ l.parts)
+    × (blanks.levels.name ≡ l.levels) × (blanks.levels.parts ≡ l.parts) × (blanks.faults.name ≡ l.faults) × (blanks.faults.parts ≡ l.parts)
 
 -- what is known of the value under the lock: its root, the entries since the opening, what was tried last and is begun still, the works that are out, and the stops, limits of levels
 -- and faults that were counted
@@ -65,7 +72,8 @@ pub record Fits {F : Type 0} (before : History) (tables : List ℕ → Option Sc
 
 -- What holds whenever the lock is free. The root is the one that was opened, with its policy, and has the tables of both lists. What is known of it stands, for the list before and
 -- that of the lock's seat. No part bears a mark while no work is out. No stop is counted while the disk's count is the one at opening, and no limit of levels while no
--- part has the greatest one. The disk's count is the one with which it was first shared, which is no less than the one at opening, and the faults that were counted since.
+-- part has the greatest one. The disk's count is the one with which it was first shared, which is no less than the one at opening, and the faults that were counted since. The one
+-- at opening is not its type's last value.
 pub record IsShared {F : Type 0} (files_of : F → Option Files) (given : Premise → Type 0) (before : History) (o : AtOpening) (s : Shown F) : Type 0 where
   pub opened_is : s.root.store.opened ≡ o.failed
   pub policy_is : s.root.policy ≡ o.policy
@@ -76,7 +84,13 @@ pub record IsShared {F : Type 0} (files_of : F → Option Files) (given : Premis
   pub no_stop : s.root.storage.failed ≡ o.failed → s.stops ≡ 0
   pub no_level : has_greatest s.root.store ≡ false → s.levels ≡ 0
   pub since : o.failed ≤ o.shared
+  pub below : o.failed < 2 ^ 64 - 1
   pub met : s.root.storage.failed ≡ o.shared + s.faults
+
+-- a root is ready to be shared: it is ready for a turn, and all that holds whenever the lock is free holds of it with nothing done since it was opened
+pub record IsToBeShared {F : Type 0} (files_of : F → Option Files) (given : Premise → Type 0) (before : History) (o : AtOpening) (root : Opened F) : Type 0 where
+  pub ready : IsOpen root
+  pub shared : IsShared files_of given before o (shown root [] None 0 0 0 0)
 
 -- A seat knows a whole history: the history begins with what the seat knows, and the seat's own entries are what the history has of its number. What was tried last and is
 -- begun still, where it has the seat's number, is what the seat tried last. Session 0 knows that neither this nor an entry is of a session that it has not made.

@@ -1,5 +1,5 @@
 -- What a turn shows to who had it: what it found, why it was refused, and what its seat knows then (docs/architecture.md, "The lock").
-use Rattle.std.specs.Prelude.{◌≡◌, ◌≢◌, ◌⊎◌, ℕ, ◌+◌, ◌<◌, ◌≤◌, ◌++◌, ◌∷◌, [], true, List, Option, None, Some, Result, Ok, Err, IfErr, IfSome, IsNone, length}
+use Rattle.std.specs.Prelude.{◌≡◌, ◌≢◌, ◌⊎◌, ℕ, ◌+◌, ◌-◌, ◌^◌, ◌<◌, ◌≤◌, ◌++◌, ◌∷◌, [], true, List, Option, None, Some, Result, Ok, Err, IfErr, IfSome, IsNone, length}
 use Rattle.std.specs.Result.{MatchResult}
 use Rattle.mt_values.specs.declared.command.Entry.{Entry}
 use Rattle.mt_values.specs.Grid.{Grid}
@@ -30,15 +30,16 @@ use Rattle.shared_store.specs.Tallies.{Tally, levels_in, stops_in, tally}
 use Rattle.shared_store.specs.Works.{SourcesStand, names_of_work, parts_beside}
 
 -- A turn found a list, after which there is a store that shows this, and a disk with some count of faults. The store has the tables of both lists, and stands for them so
--- far as the premises held at opening. The count is at least the one at opening, above it where the share had counted a stop, and at least the one with which the
--- root was first shared and the faults that the share had counted: just that where the share has every part.
+-- far as the premises held at opening. The count is at least the one with which the root was first shared, which is no less than the one at opening, and the faults that
+-- the share had counted: just that where the share has every part. It is above the one at opening, which is not its type's last value, where the share had counted a stop.
 pub record AtTurn {F : Type 0} (files_of : F → Option Files) (given : Premise → Type 0) (before : History) (o : AtOpening) (found : History) (whole : ℕ) (share : Tally) (Shows : CoreStore F → ℕ → Type 0) : Type 0 where
   pub store : CoreStore F
   pub failed : ℕ
   pub opened_is : store.opened ≡ o.failed
   pub fits : Fits before o.tables found store
   pub stands : given is_told → given is_listed → CoreStands files_of (before ++ found) store
-  pub later : o.failed ≤ failed
+  pub since : o.failed ≤ o.shared
+  pub below : o.failed < 2 ^ 64 - 1
   pub risen : 0 < share.stops → o.failed < failed
   pub met : o.shared + share.faults ≤ failed
   pub all : share.parts ≡ whole → failed ≡ o.shared + share.faults
@@ -89,10 +90,6 @@ abbrev pub ShowsPut : {F P S : Type 0} → Work F → Result (Put P) (Returned S
 ShowsPut work (Ok put.Done) store failed = ShowsDone work store failed
 ShowsPut work (Ok (put.Gone name back)) store failed = ShowsGone work name store failed
 ShowsPut work (Err r) store failed = ShowsRefused work r.cause store failed
-
--- a work was done, or one of its sources was gone
-abbrev pub ShowsMerged : {F : Type 0} → Work F → CoreStore F → ℕ → Type 0
-ShowsMerged work store failed = ShowsDone work store failed ⊎ ((name : PartName) × ShowsGone work name store failed)
 
 -- What comes back from a commit that was refused: what was sealed; or nothing, since it was given to the disk. Then the outside refused it, and always where the disk failed.
 pub record IsBack {S : Type 0} (sealed : S) (r : Returned S) : Type 0 where

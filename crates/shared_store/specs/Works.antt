@@ -121,6 +121,10 @@ pub record IsPicked {F : Type 0} (c : Choice (Part F)) (scope : Scope) (work : W
   pub partition_is : work.partition ≡ pick.partition
   pub run_is : run ≡ pick.run
 
+-- the work has parts of its partition that follow each other, as the store has them
+abbrev pub HasParts : {F : Type 0} → CoreStore F → Work F → Type 0
+HasParts store work = (run : Run) × (work.sources.items ≡ parts_of_run run (parts_beside store work))
+
 -- the work has the pair that the policy takes in a scope, as the store has its parts
 abbrev pub HasPair : {F : Type 0} → Policy → Scope → CoreStore F → Work F → Type 0
 HasPair policy scope store work = (run : Run) × IsPicked (choice_by policy store) scope work run × (work.sources.items ≡ parts_of_run run (parts_beside store work))

@@ -14,7 +14,7 @@ ghost use Rattle.root_commits.specs.part_set.RootNames.{is_table};
 ghost use Rattle.root_commits.specs.part_set.declared.run.Run.{Run};
 ghost use Rattle.root_commits.specs.root_store.Stores.{table_at};
 ghost use Rattle.root_commits.specs.root_store.declared.store.Table.{Table as Made};
-ghost use Rattle.shared_store.specs.Engines.{IsOpen, Opened, choice_by, choice_of, root_in};
+ghost use Rattle.shared_store.specs.Engines.{IsOpen, Opened, Snaps, choice_by, choice_of, root_in};
 ghost use Rattle.shared_store.specs.Levels.{any_greatest};
 ghost use Rattle.shared_store.specs.Handed.{GivesSchema, KeepsFrom, MayEnter, MayPut, Pins, insert_there};
 ghost use Rattle.shared_store.specs.Sharing.{IsShared, Shown, shown};
@@ -212,6 +212,7 @@ impl<F: Dir, R: Arm<Dir = F>, D: Disk<Arm = R>, A: Annals, B: Names> Locked<F, R
         requires { IsSession seat.old }
         ensures same { self.new ≡ self.old }
         ensures looked { Looked seat.old self.old.list seat.new }
+        ensures of { IfOk result (Snaps self.old.root.store table.now) }
         ensures snap { IfOk result
             (Pins F.files B.given B.before B.opening self.old.list table.now) }
     {
@@ -429,7 +430,7 @@ impl<F: Dir, R: Arm<Dir = F>, D: Disk<Arm = R>, A: Annals, B: Names> Locked<F, R
             × (self.new.out ≡ self.old.out + 1) × (share.new ≡ tally share.old.parts
             (share.old.out + 1) share.old.stops share.old.levels share.old.faults))) }
 
-        // Where there is none, and after an error, nothing changed.
+        // Where none is taken, and after an error, nothing changed.
         ensures none { IfOk result (λ found. IfNone found (NoneIn (choice_of self.old.root)
             scope.entry × (self.new ≡ self.old) × (share.new ≡ share.old)
             × AtTurn F.files B.given B.before B.opening self.old.list B.ledgers.parts share.old
@@ -476,6 +477,8 @@ impl<F: Dir, R: Arm<Dir = F>, D: Disk<Arm = R>, A: Annals, B: Names> Locked<F, R
         ensures noted { IfOk result (λ found. IfSome found (λ w. (w.note.list ≡ self.old.list)
             × (self.new.out ≡ self.old.out + 1) × (share.new ≡ tally share.old.parts
             (share.old.out + 1) share.old.stops share.old.levels share.old.faults))) }
+
+        // Where none is taken, and after an error, nothing changed.
         ensures none { IfOk result (λ found. IfNone found
             (AnswersWhole self.old.root.store table.now partition (Ok None)
             × (self.new ≡ self.old) × (share.new ≡ share.old)

@@ -10,13 +10,11 @@ ghost use Rattle.root_commits.specs.Turns.{storage};
 ghost use Rattle.root_commits.specs.durable_commit.Commits.{entry_of};
 ghost use Rattle.root_commits.specs.mt_model.History.{IsTableSchema};
 ghost use Rattle.root_commits.specs.part_set.RootNames.{is_table};
-ghost use Rattle.root_commits.specs.root_store.Shown.{HasNoMark};
-ghost use Rattle.root_commits.specs.root_store.Soundness.{IsReady};
 ghost use Rattle.shared_store.specs.Engines.{choice_by, opened_of};
 ghost use Rattle.shared_store.specs.Levels.{any_greatest};
 ghost use Rattle.shared_store.specs.Handed.{GivesSchema, KeepsFrom, MayEnter, MayPut, Pins, insert_there};
-ghost use Rattle.shared_store.specs.Sharing.{Finished, Fits, KnowsAll};
-ghost use Rattle.shared_store.specs.Stood.{Stood, is_told};
+ghost use Rattle.shared_store.specs.Sharing.{AreLedgersOf, Finished, IsToBeShared, KnowsAll};
+ghost use Rattle.shared_store.specs.Stood.{is_told};
 ghost use Rattle.shared_store.specs.Tallies.{tally};
 ghost use Rattle.shared_store.specs.Turns.{AtTurn, CountsTurn, GivesBack, HasTurn, PutsBack, ShowsCreate, ShowsPart, ShowsPut};
 ghost use Rattle.shared_store.specs.Works.{AnswersWhole, HasAll, HasPair};
@@ -144,26 +142,10 @@ impl<F: Dir, R: Arm<Dir = F>, D: Disk<Arm = R>, A: Annals, B: Names> Shared<F, R
     ) -> (Self, Seat<B>, Share<B>)
         // The names are of these blanks.
         requires word { blanks.word ≡ name B.table (length B.before) }
-        requires works { (blanks.works.name ≡ B.ledgers.works)
-            × (blanks.works.parts ≡ B.ledgers.parts) }
-        requires stops { (blanks.stops.name ≡ B.ledgers.stops)
-            × (blanks.stops.parts ≡ B.ledgers.parts) }
-        requires levels { (blanks.levels.name ≡ B.ledgers.levels)
-            × (blanks.levels.parts ≡ B.ledgers.parts) }
-        requires faults { (blanks.faults.name ≡ B.ledgers.faults)
-            × (blanks.faults.parts ≡ B.ledgers.parts) }
+        requires ledgers { AreLedgersOf B.ledgers blanks }
 
-        // The root is as it was opened.
-        requires ready { IsReady (D.failed disk) (D.told disk) store }
-        requires opened { store.opened ≡ B.opening.failed }
-        requires policy { policy ≡ B.opening.policy }
-        requires shared { D.failed disk ≡ B.opening.shared }
-        requires started { D.started disk ≡ B.opening.started }
-        requires idle { HasNoMark store }
-
-        // What is known of it holds so far as the premises do.
-        requires fits { Fits B.before B.opening.tables [] store }
-        requires stood { Stood F.files B.given 0 None B.opening.begun B.before (opened_of store policy
+        // The root is as it was opened; what is known of it holds so far as the premises do.
+        requires root { IsToBeShared F.files B.given B.before B.opening (opened_of store policy
             (storage (D.told disk) (D.clock disk) (D.failed disk) (A.told annals))
             (D.started disk)) }
 
@@ -261,8 +243,9 @@ impl<F: Dir, R: Arm<Dir = F>, D: Disk<Arm = R>, A: Annals, B: Names> Shared<F, R
 
     /// Commits a CREATE whose entry was sealed, as an entry of the session, and gives the length of the history then.
     ///
-    /// It is refused as `Engine::create` is, and always where the share has counted a stop. After a refusal the session only looked,
-    /// and the share has counted a stop exactly where the disk failed or the store was stopped.
+    /// It is refused as `Engine::create` is, and always where the share has counted a stop. After a refusal the session only looked;
+    /// where what was sealed does not come back, the entry is begun. The share has then counted a stop exactly where the disk failed or
+    /// the store was stopped.
     pub fn create<W: Wait>(
         &self,
         rt: &W,
@@ -289,8 +272,9 @@ impl<F: Dir, R: Arm<Dir = F>, D: Disk<Arm = R>, A: Annals, B: Names> Shared<F, R
 
     /// Commits a block of one partition whose part was sealed, as an entry of the session, and gives the length of the history then.
     ///
-    /// It is refused as `Engine::insert` is, and always where the share has counted a stop. After a refusal the session only looked,
-    /// and the share has counted a stop exactly where the disk failed or the store was stopped.
+    /// It is refused as `Engine::insert` is, and always where the share has counted a stop. After a refusal the session only looked;
+    /// where what was sealed does not come back, the entry is begun. The share has then counted a stop exactly where the disk failed or
+    /// the store was stopped.
     pub fn insert<W: Wait>(
         &self,
         rt: &W,
@@ -332,8 +316,8 @@ impl<F: Dir, R: Arm<Dir = F>, D: Disk<Arm = R>, A: Annals, B: Names> Shared<F, R
             (λ w. any_greatest w.taken.sources.items ≡ false)) }
         ensures work { IfOk result (λ found. IfSome found (λ _. share.new ≡ tally share.old.parts
             (share.old.out + 1) share.old.stops share.old.levels share.old.faults)) }
-        ensures of { IfOk result (λ found. IfSome found (λ w. (found : List Entry)
-            × AtTurn F.files B.given B.before B.opening found B.ledgers.parts share.old
+        ensures of { IfOk result (λ found. IfSome found (λ w. AtTurn F.files B.given B.before
+            B.opening w.note.list B.ledgers.parts share.old
             (λ store failed. HasPair B.opening.policy scope.entry store w.taken))) }
         ensures none { IfOk result (λ found. IfNone found ((share.new ≡ share.old)
             × (found : List Entry) × AtTurn F.files B.given B.before B.opening found
@@ -349,8 +333,9 @@ impl<F: Dir, R: Arm<Dir = F>, D: Disk<Arm = R>, A: Annals, B: Names> Shared<F, R
     /// Takes up the merge of all parts that a partition has at its turn, one too. None exactly where there is no part, or a mutation
     /// keeps two neighbours from being merged.
     ///
-    /// Else `Busy` exactly where a part is being merged, and tells the first of them in block order, never where the share has every part of the ledgers and no work of it is out;
-    /// `NoMemory` where an allocation failed, and where as many works are out as 64 bits count.
+    /// Else `Busy` exactly where a part is being merged, and tells the first of them in block order,
+    /// never where the share has every part of the ledgers and no work of it is out; `NoMemory` where an
+    /// allocation failed, and where as many works are out as 64 bits count.
     pub fn take_all<W: Wait>(
         &self,
         rt: &W,
@@ -362,8 +347,8 @@ impl<F: Dir, R: Arm<Dir = F>, D: Disk<Arm = R>, A: Annals, B: Names> Shared<F, R
         requires { 0 < share.old.parts }
         ensures of { IfOk result (λ found. IfSome found (λ w. (w.taken.table ≡ table.now)
             × (w.taken.partition ≡ partition)
-            × (found : List Entry) × AtTurn F.files B.given B.before B.opening found
-            B.ledgers.parts share.old (λ store failed. HasAll store w.taken))) }
+            × AtTurn F.files B.given B.before B.opening w.note.list B.ledgers.parts share.old
+            (λ store failed. HasAll store w.taken))) }
         ensures work { IfOk result (λ found. IfSome found (λ _. share.new ≡ tally share.old.parts
             (share.old.out + 1) share.old.stops share.old.levels share.old.faults)) }
         ensures none { IfOk result (λ found. IfNone found ((share.new ≡ share.old)

@@ -1,0 +1,16 @@
+use Rattle.std.proofs.Common.{List, sym, subst}
+use Rattle.mt_values.specs.declared.command.Entry.{Entry}
+use Rattle.shared_store.specs.Handed.{Handing}
+use Rattle.shared_store.specs.Turns.{AtTurn}
+use Rattle.shared_store.specs.Works.{HasAll}
+use Rattle.shared_store.proofs.Taking.{both_found}
+use Rattle.shared_store.proofs.shared.Shared.take_all.Goals as goal
+
+-- the turn found the list that the work's note has
+pub returns-clause-of : goal.returns-clause-of
+returns-clause-of g c =
+    both_found _ (λ (w : Handing g.row.F.Denot). AtTurn g.F.Dir.files g.B.Names.given g.B.Room.before g.B.Names.opening w.note.list g.B.Names.ledgers.parts c.args.share.now (λ store failed. HasAll store w.taken)) _ c.take_all.result
+    (λ w taken at. (taken.2, taken.3, at)) c.take_all.ensures.work
+    (both_found _ _ _ c.take_all.result
+    (λ w noted of. subst (λ (l : List Entry). AtTurn g.F.Dir.files g.B.Names.given g.B.Room.before g.B.Names.opening l g.B.Names.ledgers.parts c.args.share.now (λ store failed. HasAll store w.taken)) (sym noted.0) of)
+    c.take_all.ensures.noted c.take_all.ensures.of)
