@@ -31,13 +31,9 @@ ShowsCarried work (Unread name why) store failed = ⊥
 
 -- A work that was put had a turn, which showed why it was answered so; no call of what was sealed for it had failed. One that was not read was let go: the share has one work less out.
 abbrev pub CarriedAt : {F : Type 0} → (F → Option Files) → (Premise → Type 0) → History → AtOpening → ℕ → Work F → Tally → Tally → Carried → Type 0
-CarriedAt files_of given before o whole work old new Done =
-    (found : History) × CountsTurn files_of given before o found whole 0 (old.out - 1) None (ShowsCarried work Done) old new
-CarriedAt files_of given before o whole work old new (Gone name) =
-    (found : History) × CountsTurn files_of given before o found whole 0 (old.out - 1) None (ShowsCarried work (Gone name)) old new
-CarriedAt files_of given before o whole work old new (Refused cause) =
-    (found : History) × CountsTurn files_of given before o found whole 0 (old.out - 1) (Some cause) (ShowsCarried work (Refused cause)) old new
 CarriedAt files_of given before o whole work old new (Unread name why) = new ≡ tally old.parts (old.out - 1) old.stops old.levels old.faults
+CarriedAt files_of given before o whole work old new carried =
+    (found : History) × CountsTurn files_of given before o found whole 0 (old.out - 1) (why_refused carried) (ShowsCarried work carried) old new
 
 -- a call of the arm failed
 abbrev pub IsFault : Carried → Type 0
