@@ -19,16 +19,16 @@ use Rattle.replies.specs.mt_model.Reply.{ok_line}
 use Rattle.replies.specs.mt_model.Session.{AddsNothing, Takes}
 use Rattle.replies.specs.Foreseen.{AgreesWith, MetSince}
 use Rattle.replies.proofs.MtModelGrowing.{stays}
-use Rattle.shared_store.specs.durable_commit.declared.causes.Limit.TheVariants as limit
-use Rattle.shared_store.specs.durable_commit.declared.causes.Refused.{Refused}
-use Rattle.shared_store.specs.durable_commit.declared.causes.Refused.TheVariants as refused
-use Rattle.shared_store.specs.history_seat.declared.view.View.{View}
-use Rattle.shared_store.specs.history_seat.Turns.{Added, AddsNone, IsSession, Looked}
-use Rattle.shared_store.specs.history_seat.Views.{Begins}
-use Rattle.shared_store.specs.Sharing.{AtOpening}
-use Rattle.shared_store.specs.Stood.{Premise, is_listed, is_told}
-use Rattle.shared_store.specs.Tallies.{Tally, stops_in, tally}
-use Rattle.shared_store.specs.Turns.{Counts}
+use Rattle.merge_workers.specs.shared_store.durable_commit.declared.causes.Limit.TheVariants as limit
+use Rattle.merge_workers.specs.shared_store.durable_commit.declared.causes.Refused.{Refused}
+use Rattle.merge_workers.specs.shared_store.durable_commit.declared.causes.Refused.TheVariants as refused
+use Rattle.merge_workers.specs.shared_store.history_seat.declared.view.View.{View}
+use Rattle.merge_workers.specs.shared_store.history_seat.Turns.{Added, AddsNone, IsSession, Looked}
+use Rattle.merge_workers.specs.shared_store.history_seat.Views.{Begins}
+use Rattle.merge_workers.specs.shared_store.Sharing.{AtOpening}
+use Rattle.merge_workers.specs.shared_store.Stood.{Premise, is_listed, is_told}
+use Rattle.merge_workers.specs.shared_store.Tallies.{Tally, stops_in, tally}
+use Rattle.merge_workers.specs.shared_store.Turns.{Counts}
 use Rattle.session.specs.Lapses.{Accounts, still}
 use Rattle.session.specs.Answers.{AccountsAt, AnswersAt, CountsAt, Having, KnowsOwn, LacksCommand, StaysSession, having, met_by, met_with, place_of, stops_of}
 use Rattle.session.specs.declared.turns.TurnReply.{TurnReply}

@@ -14,30 +14,31 @@ use Rattle.replies.specs.mt_model.Outside.{Outside, TurnFailed}
 use Rattle.replies.specs.mt_model.Reply.{ok_line, schema_of_text}
 use Rattle.replies.specs.mt_model.Session.{AddsNothing, RefusedInTurn, TurnAllows}
 use Rattle.replies.specs.Foreseen.{AgreesWith}
-use Rattle.shared_store.specs.durable_commit.declared.causes.Refused.{Refused}
-use Rattle.shared_store.specs.durable_commit.Commits.{entry_of, stopped_by}
-use Rattle.shared_store.specs.history_seat.declared.view.View.{View}
-use Rattle.shared_store.specs.history_seat.Turns.{Added, AddsNone}
-use Rattle.shared_store.specs.history_seat.Views.{Begins}
-use Rattle.shared_store.specs.root_commits.declared.commits.Returned.{Returned}
-use Rattle.shared_store.specs.root_commits.Commits.{IsCause, insert_of_block, partition_of_block}
-use Rattle.shared_store.specs.root_store.declared.store.CoreStore.{CoreStore}
-use Rattle.shared_store.specs.root_store.declared.store.Table.{Table}
-use Rattle.shared_store.specs.root_store.Stores.{table_at}
-use Rattle.shared_store.specs.Handed.{insert_there, partition_by}
-use Rattle.shared_store.specs.Sharing.{AtOpening, schema_there}
-use Rattle.shared_store.specs.Stood.{Premise}
-use Rattle.shared_store.specs.Tallies.{Tally, stops_in, tally}
-use Rattle.shared_store.specs.Turns.{AtTurn, HasTurn, ShowsCreate, ShowsPart, left_of}
+use Rattle.merge_workers.specs.shared_store.durable_commit.declared.causes.Refused.{Refused}
+use Rattle.merge_workers.specs.shared_store.durable_commit.Commits.{entry_of, stopped_by}
+use Rattle.merge_workers.specs.shared_store.history_seat.declared.view.View.{View}
+use Rattle.merge_workers.specs.shared_store.history_seat.Turns.{Added, AddsNone}
+use Rattle.merge_workers.specs.shared_store.history_seat.Views.{Begins}
+use Rattle.merge_workers.specs.shared_store.root_commits.declared.commits.Returned.{Returned}
+use Rattle.merge_workers.specs.shared_store.root_commits.Commits.{IsCause, insert_of_block, partition_of_block}
+use Rattle.merge_workers.specs.shared_store.root_store.declared.store.CoreStore.{CoreStore}
+use Rattle.merge_workers.specs.shared_store.root_store.declared.store.Table.{Table}
+use Rattle.merge_workers.specs.shared_store.root_store.Stores.{table_at}
+use Rattle.merge_workers.specs.shared_store.Handed.{insert_there, partition_by}
+use Rattle.merge_workers.specs.shared_store.Sharing.{AtOpening, schema_there}
+use Rattle.merge_workers.specs.shared_store.Stood.{Premise}
+use Rattle.merge_workers.specs.shared_store.Tallies.{Tally, stops_in, tally}
+use Rattle.merge_workers.specs.shared_store.Turns.{AtTurn, HasTurn, ShowsCreate, ShowsPart, left_of}
 use Rattle.session.specs.Answers.{AnswersAt, CountsAt, Having, KnowsOwn, TurnAt, having, met_with, place_of}
 use Rattle.session.specs.declared.turns.TurnReply.{TurnReply}
 use Rattle.session.specs.declared.turns.TurnReply.TheVariants.{Accepted, Refused as Declined}
 use Rattle.session.specs.Stops.{IsLineOf}
-use Rattle.shared_store.proofs.Schemas.{table_of, there_begins}
+use Rattle.merge_workers.proofs.SharedStoreSchemas.{table_of, there_begins}
 use Rattle.session.proofs.Creating.{create_gives, created}
 use Rattle.session.proofs.Inserting.{inserted}
 use Rattle.session.proofs.Answering.{answers_line}
 use Rattle.session.proofs.Counting.{counts_refused, stop_shown}
+use Rattle.session.proofs.OnceStopped.{create_unrisen, part_unrisen}
 use Rattle.session.proofs.Stopping.{create_stop, part_stop}
 use Rattle.session.proofs.TurnReplies.{block_allowed, block_not_added, create_allowed, create_not_done, first_refused, front_of, one_accepted, turn_failed}
 use Rattle.session.proofs.Seats.{added_one, looked_nothing}
@@ -142,7 +143,8 @@ module _ {F : Type 0} (files_of : F → Option Files) (given : Premise → Type 
     create_counts none reply line =
         let t = turn.turn.turn in
         counts_refused files_of given before o found whole calls old.out none r.cause (ShowsCreate text.table (Some r.cause)) old new turn.turn arm later
-        (λ first count is. stop_shown o.failed t.store.opened t.failed r.cause t.opened_is (create_stop t.store text.table t.failed r.cause first count is t.shows) first count is) 0 text.table reply line
+        (λ first count is. stop_shown o.failed t.store.opened t.failed r.cause t.opened_is (create_stop t.store text.table t.failed r.cause first count is t.shows) first count is)
+        (create_unrisen files_of given before o found whole old (ShowsCreate text.table (Some r.cause)) t text.table r.cause t.shows) 0 text.table reply line
 
 -- ---- a block
 
@@ -199,7 +201,8 @@ module _ {F : Type 0} (files_of : F → Option Files) (given : Premise → Type 
         let t = turn.turn.turn in
         let m = kept_at (Some r.cause) l.begins t in
         counts_refused files_of given before o found whole calls old.out none r.cause (ShowsPart table block (Some r.cause)) old new turn.turn arm later
-        (λ first count is. stop_shown o.failed t.store.opened t.failed r.cause t.opened_is (part_stop t.store table t.failed r.cause first count is (partition_of_block m.0.schema block) m.0.drawn (t.shows m.0 m.1)) first count is) accepted table reply line
+        (λ first count is. stop_shown o.failed t.store.opened t.failed r.cause t.opened_is (part_stop t.store table t.failed r.cause first count is (partition_of_block m.0.schema block) m.0.drawn (t.shows m.0 m.1)) first count is)
+        (part_unrisen files_of given before o found whole old (ShowsPart table block (Some r.cause)) t table block m.0 m.1 r.cause t.shows) accepted table reply line
 
 -- memory ran out in a turn
 pub turn_ended : (given : Premise → Type 0) (before : History) (o : AtOpening) (whole : ℕ) (c : Command) (accepted : ℕ) (old new : Having) (found : History) (last : Option Entry) → AddsNone old.seat found last new.seat → (result : Result TurnReply NoMemory) → IsErr result

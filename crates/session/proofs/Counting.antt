@@ -1,24 +1,23 @@
 -- What a reply tells of the disk's count of faults and of levels.
-use Rattle.std.proofs.Common.{◌≡◌, ◌==◌, ℕ, ◌+◌, ◌-◌, ◌<◌, ◌≤◌, Bool, true, false, cond, List, Option, Some, None, inl, inr, nat_lt, refl, sym, ap, ◌∙◌, subst, arith, eqb-true}
+use Rattle.std.proofs.Common.{◌≡◌, ◌==◌, ℕ, ◌+◌, ◌<◌, ◌≤◌, Bool, true, false, cond, List, Option, Some, None, inl, inr, nat_lt, refl, sym, ap, ◌∙◌, subst, arith, eqb-true}
 use Rattle.std.proofs.lemmas.Bool.{false≢true}
 use Rattle.std.proofs.lemmas.Bool.Decides.{nat_tests}
-use Rattle.mt_outside.specs.Causes.{Rose}
 use Rattle.mt_outside.specs.Files.{Files}
 use Rattle.replies.specs.mt_model.declared.refusal.Bound.TheVariants as bound
 use Rattle.replies.specs.mt_model.declared.refusal.Refusal.TheVariants as refusal
 use Rattle.replies.specs.mt_model.History.{History}
 use Rattle.replies.specs.mt_model.Refusals.{code_of, refusal_line}
 use Rattle.replies.specs.Foreseen.{Met}
-use Rattle.shared_store.specs.durable_commit.declared.causes.Limit.TheVariants as limit
-use Rattle.shared_store.specs.durable_commit.declared.causes.Refused.{Refused}
-use Rattle.shared_store.specs.durable_commit.declared.causes.Refused.TheVariants as refused
-use Rattle.shared_store.specs.durable_commit.Commits.{stopped_by}
-use Rattle.shared_store.specs.root_commits.Commits.{IsCause}
-use Rattle.shared_store.specs.root_store.declared.store.CoreStore.{CoreStore}
-use Rattle.shared_store.specs.Sharing.{AtOpening}
-use Rattle.shared_store.specs.Stood.{Premise}
-use Rattle.shared_store.specs.Tallies.{Tally, levels_in}
-use Rattle.shared_store.specs.Turns.{CountsTurn}
+use Rattle.merge_workers.specs.shared_store.durable_commit.declared.causes.Limit.TheVariants as limit
+use Rattle.merge_workers.specs.shared_store.durable_commit.declared.causes.Refused.{Refused}
+use Rattle.merge_workers.specs.shared_store.durable_commit.declared.causes.Refused.TheVariants as refused
+use Rattle.merge_workers.specs.shared_store.durable_commit.Commits.{stopped_by}
+use Rattle.merge_workers.specs.shared_store.root_commits.Commits.{IsCause}
+use Rattle.merge_workers.specs.shared_store.root_store.declared.store.CoreStore.{CoreStore}
+use Rattle.merge_workers.specs.shared_store.Sharing.{AtOpening}
+use Rattle.merge_workers.specs.shared_store.Stood.{Premise}
+use Rattle.merge_workers.specs.shared_store.Tallies.{Tally, levels_in}
+use Rattle.merge_workers.specs.shared_store.Turns.{CountsTurn}
 use Rattle.session.specs.Answers.{CountsAt, code_in, met_with}
 use Rattle.session.specs.Stops.{IsLineOf}
 
@@ -49,14 +48,12 @@ counts_of_none old new c reply m is other more =
     counts_coded old new (c.calm (λ no. cc)) levels reply m is other more
 
 -- what comes after turns in which the count did not rise
-pub counts_then : (old mid new : Met) (reply : Option (List ℕ)) → CountsAt old mid None → old.alone ≡ mid.alone → CountsAt mid new reply → CountsAt old new reply
+pub counts_then : (old mid new : Met) (reply : Option (List ℕ)) → CountsAt old mid None → mid.opened ≡ old.opened → CountsAt mid new reply → CountsAt old new reply
 counts_then old mid new reply first same m =
     let disk : mid.disk ≡ old.disk = first.calm (λ is. cc) in
     let levels : mid.levels ≡ old.levels = elim first.levels [ inl is ↦ is | inr (bad, more) ↦ cc ] in
     record {
-      unsettled = λ is.
-          let u = m.unsettled is in
-          (u.0, (subst (λ (n : ℕ). n ≤ u.0) disk u.1.0, λ alone. u.1.1 (sym same ∙ alone) ∙ disk), subst (λ (n : ℕ). Rose u.0 (u.0 + (new.disk - n))) disk u.2);
+      unsettled = λ is. let u = m.unsettled is in (sym disk ∙ (u.0 ∙ same), subst (λ (n : ℕ). n < new.disk) disk u.1);
       stopped = m.stopped;
       calm = λ no. m.calm no ∙ disk;
       levels = elim m.levels [ inl is ↦ inl (is ∙ levels) | inr (told, more) ↦ inr (told, more ∙ ap (λ (n : ℕ). n + 1) levels) ];
@@ -79,7 +76,7 @@ module _ {F : Type 0} (files_of : F → Option Files) (given : Premise → Type 
 
   -- it was
   module _ (cause : Refused) (Shows : CoreStore F → ℕ → Type 0) (old new : Tally) (t : CountsTurn files_of given before o found whole calls out (Some cause) Shows old new) (arm later : ℕ)
-      (shown : (opened count : ℕ) → cause ≡ refused.Stopped opened count → (opened ≡ o.failed) × (count ≡ t.turn.failed) × (o.failed < t.turn.failed)) where
+      (shown : (opened count : ℕ) → cause ≡ refused.Stopped opened count → (opened ≡ o.failed) × (count ≡ t.turn.failed) × (o.failed < t.turn.failed)) (unrisen : cause ≡ refused.Disk → t.turn.failed ≡ t.turn.store.opened) where
     abbrev was : Met
     was = met_with o whole old arm
 
@@ -101,17 +98,23 @@ module _ {F : Type 0} (files_of : F → Option Files) (given : Premise → Type 
     other : (c : Refused) (reply : List ℕ) (m : ℕ) → cause ≡ c → (c ≡ refused.Disk → ⊥) → levels_in (Some c) ≡ 0 → code_of reply ≡ m → (m == 16) ≡ false → (m == 17) ≡ false → CountsAt was now (Some reply)
     other c reply m is calm zero code first second = counts_coded was now (same_disk c is calm) (same_levels c is zero) reply m code first second
 
-    rose : cause ≡ refused.Disk → Rose t.turn.failed (t.turn.failed + (now.disk - was.disk))
-    rose is =
+    -- the count was the one at opening, and rose
+    unsettled : cause ≡ refused.Disk → (was.disk ≡ was.opened) × (was.disk < now.disk)
+    unsettled is =
+        let x = t.turn in
+        let at : x.failed ≡ o.failed = unrisen is ∙ x.opened_is in
+        let low = x.since in
+        let below = x.below in
+        let met = x.met in
+        let up = t.counted.rose (ap (λ (c : Refused). Some c) is) in
         let has = ap (λ (x : Tally). x.faults) t.counted.counted in
-        let up : t.counted.rise ≡ now.disk - was.disk = omega (arith, has) in
-        subst (λ (n : ℕ). Rose t.turn.failed (t.turn.failed + n)) up (t.counted.rose (ap (λ (c : Refused). Some c) is))
+        (omega (arith, at, low, met), omega (arith, at, below, up, has))
 
     disk_counts : cause ≡ refused.Disk → (accepted : ℕ) (reply : List ℕ) → reply ≡ refusal_line (refusal.Unsettled accepted) → CountsAt was now (Some reply)
     disk_counts is accepted reply line =
         let code : code_of reply ≡ 16 = ap code_of line in
         record {
-          unsettled = λ _. (t.turn.failed, (t.turn.met, λ alone. t.turn.all (eqb-true old.parts whole alone)), rose is);
+          unsettled = λ _. unsettled is;
           stopped = λ bad. absurd (other_code reply 16 17 code refl bad);
           calm = λ no. absurd (no code);
           levels = inl (same_levels refused.Disk is refl);

@@ -10,7 +10,7 @@ use Rattle.mt_values.specs.declared.statement.CreateText.{CreateText}
 use Rattle.mt_values.specs.declared.statement.Statement.{Statement}
 use Rattle.mt_values.specs.declared.statement.Statement.TheVariants as statement
 use Rattle.mt_values.specs.Script.{statements_of, statement_and}
-use Rattle.shared_store.proofs.RootStoreEntryReads.{reads_as}
+use Rattle.merge_workers.proofs.RootStoreEntryReads.{reads_as}
 use Rattle.mt_values.proofs.ScriptBounds.{statements_of_step}
 use Rattle.replies.specs.mt_model.declared.refusal.Bound.TheVariants as bound
 use Rattle.replies.specs.mt_model.declared.refusal.Refusal.TheVariants as refusal
@@ -19,8 +19,8 @@ use Rattle.replies.specs.mt_model.History.{History, schema_of, creates}
 use Rattle.replies.specs.mt_model.Reply.{schema_of_text, create_turn}
 use Rattle.replies.specs.mt_model.Written.{IsCreateText}
 use Rattle.replies.proofs.MtModelTables.{itself_same}
-use Rattle.shared_store.specs.root_store.Entries.{EntryHolds, schema_of_items, schema_of_entry}
-use Rattle.shared_store.specs.root_commits.Commits.{IsSealedEntry}
+use Rattle.merge_workers.specs.shared_store.root_store.Entries.{EntryHolds, schema_of_items, schema_of_entry}
+use Rattle.merge_workers.specs.shared_store.root_commits.Commits.{IsSealedEntry}
 use Rattle.mt_outside.specs.Files.{Files}
 use Rattle.session.specs.Staged.{entry_files}
 

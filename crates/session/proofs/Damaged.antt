@@ -14,14 +14,14 @@ use Rattle.replies.specs.mt_model.declared.refusal.Refusal.TheVariants as refusa
 use Rattle.replies.specs.mt_model.History.{IsTableSchema}
 use Rattle.replies.specs.mt_model.Queries.{query_of}
 use Rattle.replies.specs.mt_model.Refusals.{refusal_line}
-use Rattle.shared_store.specs.part_name.declared.part.PartName.{PartName}
-use Rattle.shared_store.specs.part_name.PartNames.{part_text}
-use Rattle.shared_store.specs.part_reader.declared.reading.Part.{Part}
-use Rattle.shared_store.specs.part_reader.declared.reading.PartFault.{PartFault}
-use Rattle.shared_store.specs.part_reader.declared.reading.PartFault.TheVariants as fault
-use Rattle.shared_store.specs.part_set.declared.kept.Kept.{Kept}
-use Rattle.shared_store.specs.part_set.declared.kept.Snap.{Snap}
-use Rattle.shared_store.specs.root_store.Soundness.{HoldsRows}
+use Rattle.merge_workers.specs.shared_store.part_name.declared.part.PartName.{PartName}
+use Rattle.merge_workers.specs.shared_store.part_name.PartNames.{part_text}
+use Rattle.merge_workers.specs.shared_store.part_reader.declared.reading.Part.{Part}
+use Rattle.merge_workers.specs.shared_store.part_reader.declared.reading.PartFault.{PartFault}
+use Rattle.merge_workers.specs.shared_store.part_reader.declared.reading.PartFault.TheVariants as fault
+use Rattle.merge_workers.specs.shared_store.part_set.declared.kept.Kept.{Kept}
+use Rattle.merge_workers.specs.shared_store.part_set.declared.kept.Snap.{Snap}
+use Rattle.merge_workers.specs.shared_store.root_store.Soundness.{HoldsRows}
 use Rattle.final_fold.specs.declared.asking.Wanted.{Wanted}
 use Rattle.final_fold.specs.row_merge.MergedParts.{PartsHold}
 use Rattle.final_fold.specs.select_plan.Plans.{planned}

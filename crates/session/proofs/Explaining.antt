@@ -19,10 +19,10 @@ use Rattle.replies.specs.mt_model.Numbers.{mutations_in}
 use Rattle.replies.specs.mt_model.Queries.{query_of}
 use Rattle.replies.specs.predicate.Indexes.{chosen_by_indexes}
 use Rattle.final_fold.specs.part_history.Parts.{portion_of}
-use Rattle.shared_store.specs.part_reader.declared.reading.Part.{Part}
-use Rattle.shared_store.specs.part_set.declared.kept.Kept.{Kept}
-use Rattle.shared_store.specs.part_writer.PartFiles.{loaded_of}
-use Rattle.shared_store.specs.root_store.Stores.{core_part, core_parts}
+use Rattle.merge_workers.specs.shared_store.part_reader.declared.reading.Part.{Part}
+use Rattle.merge_workers.specs.shared_store.part_set.declared.kept.Kept.{Kept}
+use Rattle.merge_workers.specs.shared_store.part_writer.PartFiles.{loaded_of}
+use Rattle.merge_workers.specs.shared_store.root_store.Stores.{core_part, core_parts}
 use Rattle.final_fold.specs.select_plan.Plans.{counts_over, read_of}
 use Rattle.final_fold.specs.row_merge.MergedParts.{PartsHold}
 use Rattle.session.proofs.Planned.{marked_is, planned_is}

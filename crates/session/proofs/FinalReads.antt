@@ -27,13 +27,13 @@ use Rattle.final_fold.specs.part_history.declared.part.CorePart.{CorePart}
 use Rattle.final_fold.specs.part_history.Parts.{AreInBlockOrder, PartStands, TableStands, block_cmp, partition_cmp}
 use Rattle.final_fold.proofs.PartHistoryOrders.{block_weak}
 use Rattle.final_fold.proofs.PartHistoryOwnRows.{own_rows}
-use Rattle.shared_store.specs.part_reader.declared.reading.Part.{Part}
-use Rattle.shared_store.specs.part_set.Parts.{partition_rank}
-use Rattle.shared_store.specs.part_set.declared.kept.Kept.{Kept}
+use Rattle.merge_workers.specs.shared_store.part_reader.declared.reading.Part.{Part}
+use Rattle.merge_workers.specs.shared_store.part_set.Parts.{partition_rank}
+use Rattle.merge_workers.specs.shared_store.part_set.declared.kept.Kept.{Kept}
 use Rattle.final_fold.specs.select_plan.primary_marks.Choosing.{ArePartOf}
 use Rattle.final_fold.specs.select_plan.primary_marks.Keys.{HasMarks}
 use Rattle.final_fold.proofs.PrimaryMarksSkippedGranules.{chosen_count}
-use Rattle.shared_store.specs.root_store.Stores.{core_part, core_parts}
+use Rattle.merge_workers.specs.shared_store.root_store.Stores.{core_part, core_parts}
 use Rattle.final_fold.specs.select_plan.Plans.{read_of}
 use Rattle.final_fold.proofs.SelectPlanFoldedMatches.{folded_chosen}
 use Rattle.final_fold.specs.declared.asking.Wanted.{Wanted}

@@ -1,16 +1,16 @@
 -- A command is given to the disk only while its count of faults is the one at opening.
 use Rattle.std.proofs.Common.{◌≡◌, ℕ, ◌≤◌, List, Option, Some, None, Bool, true, false, cond, is_some, nat_le, nat_lt, length, refl, subst}
 use Rattle.mt_base.specs.declared.partition.Partition.{Partition}
-use Rattle.shared_store.specs.part_set.Parts.{kept_in}
-use Rattle.shared_store.specs.part_set.Sets.{parts_of}
-use Rattle.shared_store.specs.durable_commit.declared.causes.Limit.TheVariants as limit
-use Rattle.shared_store.specs.durable_commit.declared.causes.Refused.{Refused}
-use Rattle.shared_store.specs.durable_commit.declared.causes.Refused.TheVariants as refused
-use Rattle.shared_store.specs.durable_commit.Commits.{IsOutside}
-use Rattle.shared_store.specs.root_store.declared.store.CoreStore.{CoreStore}
-use Rattle.shared_store.specs.root_store.Stores.{table_at}
-use Rattle.shared_store.specs.root_commits.Commits.{IsCause, refuses_create, refuses_part}
-use Rattle.shared_store.proofs.RootCommitsLeaving.{shown_calm, shown_part_calm}
+use Rattle.merge_workers.specs.shared_store.part_set.Parts.{kept_in}
+use Rattle.merge_workers.specs.shared_store.part_set.Sets.{parts_of}
+use Rattle.merge_workers.specs.shared_store.durable_commit.declared.causes.Limit.TheVariants as limit
+use Rattle.merge_workers.specs.shared_store.durable_commit.declared.causes.Refused.{Refused}
+use Rattle.merge_workers.specs.shared_store.durable_commit.declared.causes.Refused.TheVariants as refused
+use Rattle.merge_workers.specs.shared_store.durable_commit.Commits.{IsOutside}
+use Rattle.merge_workers.specs.shared_store.root_store.declared.store.CoreStore.{CoreStore}
+use Rattle.merge_workers.specs.shared_store.root_store.Stores.{table_at}
+use Rattle.merge_workers.specs.shared_store.root_commits.Commits.{IsCause, refuses_create, refuses_part}
+use Rattle.merge_workers.proofs.RootCommitsLeaving.{shown_calm, shown_part_calm}
 
 shown_none : (shown : Option Refused) → IsCause shown None → shown ≡ None
 shown_none None is = refl

@@ -25,7 +25,7 @@ use Rattle.replies.specs.mt_model.Reply.{rows_or_refused, insert_turn}
 use Rattle.replies.proofs.MtModelCauses.{OfScript, commands_are_cause}
 use Rattle.replies.proofs.MtModelRanges.{inserted_signed}
 use Rattle.replies.proofs.MtModelTables.{itself_same}
-use Rattle.shared_store.specs.root_commits.Commits.{insert_into, insert_of_block, partition_of_block}
+use Rattle.merge_workers.specs.shared_store.root_commits.Commits.{insert_into, insert_of_block, partition_of_block}
 use Rattle.block_split.specs.declared.blocks.PartitionBlock.{PartitionBlock}
 use Rattle.block_split.specs.Split.{insert_of, partition_rows, split_rows}
 use Rattle.session.specs.declared.sealing.SealedBlock.{SealedBlock}

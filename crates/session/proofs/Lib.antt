@@ -18,6 +18,7 @@ pub mod Picking
 pub mod Planned
 pub mod Running
 pub mod Runs
+pub mod RunsEach
 pub mod SealedParts
 pub mod Seats
 pub mod Seeing
@@ -40,9 +41,9 @@ pub use Rattle.replies.proofs.MtModelUnrefused
 pub use Rattle.replies.proofs.Counting as RepliesCounting
 pub use Rattle.replies.proofs.Ends as RepliesEnds
 pub use Rattle.replies.proofs.RunStreamsKnown
-pub use Rattle.shared_store.proofs.Finishing as SharedStoreFinishing
-pub use Rattle.shared_store.proofs.Levels as SharedStoreLevels
-pub use Rattle.shared_store.proofs.Opening as SharedStoreOpening
-pub use Rattle.shared_store.proofs.Standing as SharedStoreStanding
-pub use Rattle.shared_store.proofs.RootStoreTableIndexes
-pub use Rattle.shared_store.proofs.RootStoreTableMarks
+pub use Rattle.merge_workers.proofs.SharedStoreFinishing
+pub use Rattle.merge_workers.proofs.SharedStoreLevels
+pub use Rattle.merge_workers.proofs.SharedStoreOpening
+pub use Rattle.merge_workers.proofs.SharedStoreStanding
+pub use Rattle.merge_workers.proofs.RootStoreTableIndexes
+pub use Rattle.merge_workers.proofs.RootStoreTableMarks

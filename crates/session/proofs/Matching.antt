@@ -17,17 +17,17 @@ use Rattle.replies.specs.mt_model.History.{History, IsLegal, IsTableSchema, sche
 use Rattle.final_fold.specs.part_history.declared.part.CorePart.{CorePart}
 use Rattle.final_fold.specs.part_history.Parts.{PartStands, TableStands}
 use Rattle.final_fold.proofs.PartHistoryOwnRows.{own_rows}
-use Rattle.shared_store.specs.part_reader.declared.reading.Part.{Part}
-use Rattle.shared_store.specs.part_set.declared.kept.Kept.{Kept}
-use Rattle.shared_store.specs.part_writer.declared.loaded.Loaded.{Loaded}
-use Rattle.shared_store.specs.part_writer.PartFiles.{loaded_of}
+use Rattle.merge_workers.specs.shared_store.part_reader.declared.reading.Part.{Part}
+use Rattle.merge_workers.specs.shared_store.part_set.declared.kept.Kept.{Kept}
+use Rattle.merge_workers.specs.shared_store.part_writer.declared.loaded.Loaded.{Loaded}
+use Rattle.merge_workers.specs.shared_store.part_writer.PartFiles.{loaded_of}
 use Rattle.replies.specs.predicate.Granules.{asked_in}
 use Rattle.replies.specs.predicate.Masks.{both}
 use Rattle.final_fold.specs.select_plan.primary_marks.Choosing.{ArePartOf}
 use Rattle.final_fold.proofs.PrimaryMarksSkippedGranules.{asked_count, chosen_count, sure_meet}
-use Rattle.shared_store.proofs.RootStoreTableIndexes.{has_indexes}
-use Rattle.shared_store.proofs.RootStoreTableMarks.{has_marks}
-use Rattle.shared_store.specs.root_store.Stores.{core_parts}
+use Rattle.merge_workers.proofs.RootStoreTableIndexes.{has_indexes}
+use Rattle.merge_workers.proofs.RootStoreTableMarks.{has_marks}
+use Rattle.merge_workers.specs.shared_store.root_store.Stores.{core_parts}
 use Rattle.final_fold.specs.select_plan.Plans.{asked_of, asked_part, planned_part, read_of}
 use Rattle.final_fold.proofs.RowMergeHistoryRows.{same_schema}
 use Rattle.final_fold.specs.Asked.{MeetUnasked, unasked_of}

@@ -8,29 +8,29 @@ use Rattle.mt_outside.specs.Files.{Files}
 use Rattle.replies.specs.mt_model.History.{History}
 use Rattle.replies.specs.mt_model.Refusals.{code_of}
 use Rattle.replies.specs.Foreseen.{is_unsettled}
-use Rattle.shared_store.specs.durable_commit.declared.causes.Limit.TheVariants as limit
-use Rattle.shared_store.specs.durable_commit.declared.causes.Refused.{Refused}
-use Rattle.shared_store.specs.durable_commit.declared.causes.Refused.TheVariants as refused
-use Rattle.shared_store.specs.durable_commit.Commits.{IsOutside, entry_of}
-use Rattle.shared_store.specs.history_seat.declared.view.View.{View}
-use Rattle.shared_store.specs.history_seat.Turns.{Added, AddsNone, Looked}
-use Rattle.shared_store.specs.history_seat.Views.{Begins}
-use Rattle.shared_store.specs.root_commits.declared.commits.Returned.{Returned}
-use Rattle.shared_store.specs.root_commits.Commits.{IsCause, partition_of_block}
-use Rattle.shared_store.specs.root_store.declared.store.CoreStore.{CoreStore}
-use Rattle.shared_store.specs.root_store.declared.store.Table.{Table}
-use Rattle.shared_store.specs.root_store.Stores.{table_at}
-use Rattle.shared_store.specs.declared.work.Work.{Work}
-use Rattle.shared_store.specs.Handed.{insert_there}
-use Rattle.shared_store.specs.Sharing.{AtOpening, schema_there}
-use Rattle.shared_store.specs.Stood.{Premise}
-use Rattle.shared_store.specs.Tallies.{Tally}
-use Rattle.shared_store.specs.Turns.{AtTurn, HasTurn, ShowsCreate, ShowsPart, ShowsRefused}
+use Rattle.merge_workers.specs.shared_store.durable_commit.declared.causes.Limit.TheVariants as limit
+use Rattle.merge_workers.specs.shared_store.durable_commit.declared.causes.Refused.{Refused}
+use Rattle.merge_workers.specs.shared_store.durable_commit.declared.causes.Refused.TheVariants as refused
+use Rattle.merge_workers.specs.shared_store.durable_commit.Commits.{IsOutside, entry_of}
+use Rattle.merge_workers.specs.shared_store.history_seat.declared.view.View.{View}
+use Rattle.merge_workers.specs.shared_store.history_seat.Turns.{Added, AddsNone, Looked}
+use Rattle.merge_workers.specs.shared_store.history_seat.Views.{Begins}
+use Rattle.merge_workers.specs.shared_store.root_commits.declared.commits.Returned.{Returned}
+use Rattle.merge_workers.specs.shared_store.root_commits.Commits.{IsCause, partition_of_block}
+use Rattle.merge_workers.specs.shared_store.root_store.declared.store.CoreStore.{CoreStore}
+use Rattle.merge_workers.specs.shared_store.root_store.declared.store.Table.{Table}
+use Rattle.merge_workers.specs.shared_store.root_store.Stores.{table_at}
+use Rattle.merge_workers.specs.shared_store.declared.work.Work.{Work}
+use Rattle.merge_workers.specs.shared_store.Handed.{insert_there}
+use Rattle.merge_workers.specs.shared_store.Sharing.{AtOpening, schema_there}
+use Rattle.merge_workers.specs.shared_store.Stood.{Premise}
+use Rattle.merge_workers.specs.shared_store.Tallies.{Tally}
+use Rattle.merge_workers.specs.shared_store.Turns.{AtTurn, HasTurn, ShowsCreate, ShowsPart, ShowsRefused}
 use Rattle.session.specs.Answers.{AccountsAt, Having, StaysStopped, having, stops_of}
 use Rattle.session.specs.declared.turns.TurnReply.{TurnReply}
 use Rattle.session.specs.Stops.{IsLineOf}
 use Rattle.session.specs.Turns.{replied}
-use Rattle.shared_store.proofs.Schemas.{table_of, there_begins}
+use Rattle.merge_workers.proofs.SharedStoreSchemas.{table_of, there_begins}
 use Rattle.session.proofs.Gaining.{still_added, still_created, still_part_refused, still_refused}
 
 -- ---- where no commit was tried
@@ -67,47 +67,66 @@ unless_disk accepted table (refused.Limit limit.Levels) reply line other = ap is
 
 -- ---- at a turn
 
-module _ {F : Type 0} (files_of : F → Option Files) (given : Premise → Type 0) (before : History) (o : AtOpening) (found : History) (whole : ℕ) (old : Tally) (Shows : CoreStore F → ℕ → Type 0) (t : AtTurn files_of given before o found whole old Shows) (some : 0 < old.stops) where
-  low : t.store.opened ≤ t.failed
-  low = let later = t.later in let at = t.opened_is in omega (arith, later, at)
+disk_outside : (cause : Refused) → cause ≡ refused.Disk → IsOutside (Some cause)
+disk_outside cause is = subst (λ (c : Refused). IsOutside (Some c)) (sym is) tt
 
-  -- the count is above the one at opening
+-- where the outside refused, the count was the one at opening
+module _ {F : Type 0} (files_of : F → Option Files) (given : Premise → Type 0) (before : History) (o : AtOpening) (found : History) (whole : ℕ) (old : Tally) (Shows : CoreStore F → ℕ → Type 0) (t : AtTurn files_of given before o found whole old Shows) where
+  low : t.store.opened ≤ t.failed
+  low = let since = t.since in let met = t.met in let at = t.opened_is in omega (arith, since, met, at)
+
+  create_calm : (table : List ℕ) (cause : Refused) → ShowsCreate table (Some cause) t.store t.failed → IsOutside (Some cause) → t.failed ≡ t.store.opened
+  create_calm table cause shows outside = still_refused t.store table t.failed low cause shows outside
+
+  part_calm : (table : List ℕ) (block : Grid) (m : Table) → table_at t.store table ≡ Some m → (cause : Refused) → ShowsPart table block (Some cause) t.store t.failed → IsOutside (Some cause) → t.failed ≡ t.store.opened
+  part_calm table block m at cause shows outside = still_part_refused t.store table t.failed low (partition_of_block m.schema block) m.drawn cause (shows m at) outside
+
+  pub create_unrisen : (table : List ℕ) (cause : Refused) → ShowsCreate table (Some cause) t.store t.failed → cause ≡ refused.Disk → t.failed ≡ t.store.opened
+  create_unrisen table cause shows is = create_calm table cause shows (disk_outside cause is)
+
+  pub part_unrisen : (table : List ℕ) (block : Grid) (m : Table) → table_at t.store table ≡ Some m → (cause : Refused) → ShowsPart table block (Some cause) t.store t.failed → cause ≡ refused.Disk → t.failed ≡ t.store.opened
+  part_unrisen table block m at cause shows is = part_calm table block m at cause shows (disk_outside cause is)
+
+  pub put_unrisen : (work : Work F) (cause : Refused) → ShowsRefused work cause t.store t.failed → cause ≡ refused.Disk → t.failed ≡ t.store.opened
+  put_unrisen work cause shows is = elim shows [
+    | inl (full, any, levels) ↦ (let bad : refused.Limit limit.Levels ≡ refused.Disk = sym levels ∙ is in cc)
+    | inr shown ↦ by (nat_lt t.store.opened t.failed) refl shown
+  ]
+    where
+      by : (b : Bool) → nat_lt t.store.opened t.failed ≡ b → IsCause (cond b (Some (refused.Stopped t.store.opened t.failed)) None) (Some cause) → t.failed ≡ t.store.opened
+      by true risen said =
+          let bad : Some refused.Disk ≡ Some (refused.Stopped t.store.opened t.failed) = ap (λ (c : Refused). Some c) (sym is) ∙ said in
+          cc
+      by false risen said =
+          let most : t.failed ≤ t.store.opened = grind (arith, nat_tests, risen) in
+          let least = low in
+          omega (arith, most, least)
+
+-- a share that has counted a stop finds it above that
+module _ {F : Type 0} (files_of : F → Option Files) (given : Premise → Type 0) (before : History) (o : AtOpening) (found : History) (whole : ℕ) (old : Tally) (Shows : CoreStore F → ℕ → Type 0) (t : AtTurn files_of given before o found whole old Shows) (some : 0 < old.stops) where
   high : t.failed ≡ t.store.opened → ⊥
   high same = let risen = t.risen some in let at = t.opened_is in absurd (omega (arith, risen, at, same))
 
-  disk_outside : (cause : Refused) → cause ≡ refused.Disk → IsOutside (Some cause)
-  disk_outside cause is = subst (λ (c : Refused). IsOutside (Some c)) (sym is) tt
-
   pub create_not_outside : (table : List ℕ) (cause : Refused) → ShowsCreate table (Some cause) t.store t.failed → IsOutside (Some cause) → ⊥
-  create_not_outside table cause shows outside = high (still_refused t.store table t.failed low cause shows outside)
+  create_not_outside table cause shows outside = high (create_calm files_of given before o found whole old Shows t table cause shows outside)
 
   pub part_not_outside : (table : List ℕ) (block : Grid) (m : Table) → table_at t.store table ≡ Some m → (cause : Refused) → ShowsPart table block (Some cause) t.store t.failed → IsOutside (Some cause) → ⊥
-  part_not_outside table block m at cause shows outside = high (still_part_refused t.store table t.failed low (partition_of_block m.schema block) m.drawn cause (shows m at) outside)
+  part_not_outside table block m at cause shows outside = high (part_calm files_of given before o found whole old Shows t table block m at cause shows outside)
 
   pub create_stopped : (table : List ℕ) → ShowsCreate table None t.store t.failed → ⊥
-  create_stopped table shows = high (still_created t.store table t.failed low shows)
+  create_stopped table shows = high (still_created t.store table t.failed (low files_of given before o found whole old Shows t) shows)
 
   pub create_not_failed : (table : List ℕ) (cause : Refused) → ShowsCreate table (Some cause) t.store t.failed → cause ≡ refused.Disk → ⊥
   create_not_failed table cause shows is = create_not_outside table cause shows (disk_outside cause is)
 
   pub part_stopped : (table : List ℕ) (block : Grid) (m : Table) → table_at t.store table ≡ Some m → ShowsPart table block None t.store t.failed → ⊥
-  part_stopped table block m at shows = high (still_added t.store table t.failed low (partition_of_block m.schema block) m.drawn (shows m at))
+  part_stopped table block m at shows = high (still_added t.store table t.failed (low files_of given before o found whole old Shows t) (partition_of_block m.schema block) m.drawn (shows m at))
 
   pub part_not_failed : (table : List ℕ) (block : Grid) (m : Table) → table_at t.store table ≡ Some m → (cause : Refused) → ShowsPart table block (Some cause) t.store t.failed → cause ≡ refused.Disk → ⊥
   part_not_failed table block m at cause shows is = part_not_outside table block m at cause shows (disk_outside cause is)
 
   pub put_not_failed : (work : Work F) (cause : Refused) → ShowsRefused work cause t.store t.failed → cause ≡ refused.Disk → ⊥
-  put_not_failed work cause shows is = elim shows [
-    | inl (full, any, levels) ↦ (let bad : refused.Limit limit.Levels ≡ refused.Disk = sym levels ∙ is in cc)
-    | inr shown ↦ (
-        let risen = t.risen some in
-        let at = t.opened_is in
-        let yes : nat_lt t.store.opened t.failed ≡ true = grind (arith, nat_tests, risen, at) in
-        let said : Some cause ≡ Some (refused.Stopped t.store.opened t.failed) = subst (λ (b : Bool). IsCause (cond b (Some (refused.Stopped t.store.opened t.failed)) None) (Some cause)) yes shown in
-        let bad : Some refused.Disk ≡ Some (refused.Stopped t.store.opened t.failed) = ap (λ (c : Refused). Some c) (sym is) ∙ said in
-        cc
-        )
-  ]
+  put_not_failed work cause shows is = high (put_unrisen files_of given before o found whole old Shows t work cause shows is)
 
 -- ---- the replies to turns that were refused
 

@@ -17,20 +17,21 @@ use Rattle.replies.specs.mt_model.Outside.{LevelFailed, Outside, PartBusy, ReadO
 use Rattle.replies.specs.mt_model.Refusals.{code_of, refusal_line}
 use Rattle.replies.specs.mt_model.Reply.{ok_line}
 use Rattle.replies.specs.mt_model.Session.{AddsNothing, TakesOptimize}
-use Rattle.shared_store.specs.history_seat.declared.view.View.{View}
-use Rattle.shared_store.specs.history_seat.Turns.{Looked}
-use Rattle.shared_store.specs.history_seat.Views.{Begins}
-use Rattle.shared_store.specs.Sharing.{AtOpening, schema_there}
-use Rattle.shared_store.specs.Stood.{Premise, is_listed, is_told}
-use Rattle.shared_store.specs.Tallies.{Tally}
-use Rattle.shared_store.specs.part_name.PartNames.{IsPartition, partition_text}
-use Rattle.shared_store.specs.mutation_queue.declared.scope.Scope.{Scope}
-use Rattle.shared_store.specs.mutation_queue.Scopes.{InScope}
-use Rattle.shared_store.specs.Works.{HasPair}
-use Rattle.session.specs.Answers.{AccountsAt, FoundNoPair, HasPairOf, IsFinalAt, IsNamed, IsThere, ListsAsAsked, MergesAsAsked, MergesAt, StaysSession, TellsOfHanded, WasMerged, WereIn, having, met_with, stops_of}
-use Rattle.shared_store.proofs.MtModelHistories.{schema_kept}
+use Rattle.merge_workers.specs.shared_store.history_seat.declared.view.View.{View}
+use Rattle.merge_workers.specs.shared_store.history_seat.Turns.{Looked}
+use Rattle.merge_workers.specs.shared_store.history_seat.Views.{Begins}
+use Rattle.merge_workers.specs.shared_store.Sharing.{AtOpening, schema_there}
+use Rattle.merge_workers.specs.shared_store.Stood.{Premise, is_listed, is_told}
+use Rattle.merge_workers.specs.shared_store.Tallies.{Tally}
+use Rattle.merge_workers.specs.shared_store.part_name.PartNames.{IsPartition, partition_text}
+use Rattle.merge_workers.specs.shared_store.mutation_queue.declared.scope.Scope.{Scope}
+use Rattle.merge_workers.specs.shared_store.mutation_queue.Scopes.{InScope}
+use Rattle.merge_workers.specs.shared_store.Works.{HasPair}
+use Rattle.session.specs.Answers.{AccountsAt, FoundNoPair, HasPairOf, IsFinalAt, IsNamed, IsThere, ListsAsAsked, MergesAsAsked, MergesAt, StaysSession, TellsOfBusy, TellsOfHanded, WasMerged, WereIn, having, met_with, stops_of}
+use Rattle.session.specs.Lapses.{Never}
+use Rattle.merge_workers.proofs.MtModelHistories.{schema_kept}
 use Rattle.session.proofs.Counting.{counts_of_none, other_code}
-use Rattle.session.proofs.Merges.{merged_of, merges_as, no_pair_of, tells_of}
+use Rattle.session.proofs.Merges.{busy_of, merged_of, merges_as, no_pair_of, tells_of}
 use Rattle.session.proofs.Seats.{looked_own}
 
 -- an OPTIMIZE has no command where its table is there
@@ -85,12 +86,12 @@ module _ (n : Outside) (h : History) (session from to : ℕ) (end : length h ≡
 
 -- ---- what stays, and what accounts for the reply
 
-module _ (given : Premise → Type 0) (o : AtOpening) (whole : ℕ) (old new : Tally) (arm later : ℕ) (full : Bool) (Damage : List ℕ → Type 0) (Shows : Type 0) (v w : View) where
-  pub merged_stays : (found : Result (Option (List ℕ)) NoMemory) → MergesAt given o whole old new arm later full Damage Shows found → new.out ≡ old.out → Looked v w.list w → StaysSession o whole (having v old arm) (having w new later)
+module _ (given : Premise → Type 0) (o : AtOpening) (whole : ℕ) (old new : Tally) (arm later : ℕ) (full : Bool) (Damage Busy : List ℕ → Type 0) (Shows : Type 0) (v w : View) where
+  pub merged_stays : (found : Result (Option (List ℕ)) NoMemory) → MergesAt given o whole old new arm later full Damage Busy Shows found → new.out ≡ old.out → Looked v w.list w → StaysSession o whole (having v old arm) (having w new later)
   merged_stays found m out l = record { session = l.session; number = l.number; made = l.made; begins = l.begins; own_is = looked_own [] w.list v w l; parts = m.parts; out = out; since = m.since }
 
   -- all were done
-  pub merged_accounts : (line : Result (List ℕ) NoMemory) (place : ℕ) → IfOk line (λ reply. reply ≡ ok_line place) → MergesAt given o whole old new arm later full Damage Shows (Ok None) → AccountsAt o whole (having v old arm) (having w new later) Damage line
+  pub merged_accounts : (line : Result (List ℕ) NoMemory) (place : ℕ) → IfOk line (λ reply. reply ≡ ok_line place) → MergesAt given o whole old new arm later full Damage Busy Shows (Ok None) → AccountsAt o whole (having v old arm) (having w new later) Damage line
   merged_accounts (Ok reply) place ok m =
       let code : code_of reply ≡ 0 = ap code_of ok in
       let stops = m.stops in
@@ -107,11 +108,11 @@ module _ (given : Premise → Type 0) (o : AtOpening) (whole : ℕ) (old new : T
       record { failed = tt; stops = tt; counts = tt; damaged = tt; memory = (m.done.0, omega (arith, disk)); later = m.since.arm }
 
   -- one was refused
-  pub stopped_accounts : (reply : List ℕ) → MergesAt given o whole old new arm later full Damage Shows (Ok (Some reply)) → AccountsAt o whole (having v old arm) (having w new later) Damage (Ok reply)
+  pub stopped_accounts : (reply : List ℕ) → MergesAt given o whole old new arm later full Damage Busy Shows (Ok (Some reply)) → AccountsAt o whole (having v old arm) (having w new later) Damage (Ok reply)
   stopped_accounts reply m = record { failed = m.failed; stops = m.stops; counts = m.counts; damaged = m.damaged; memory = tt; later = m.since.arm }
 
   -- memory ran out
-  pub ended_accounts_at : (e : NoMemory) → MergesAt given o whole old new arm later full Damage Shows (Err e) → AccountsAt o whole (having v old arm) (having w new later) Damage (Err e)
+  pub ended_accounts_at : (e : NoMemory) → MergesAt given o whole old new arm later full Damage Busy Shows (Err e) → AccountsAt o whole (having v old arm) (having w new later) Damage (Err e)
   ended_accounts_at e m = record { failed = tt; stops = tt; counts = tt; damaged = tt; memory = m.memory; later = m.since.arm }
 
 -- ---- what was asked for
@@ -184,20 +185,21 @@ module _ {F : Type 0} (files_of : F → Option Files) (given : Premise → Type 
       (inl (merged_of files_of given before o whole (InScope scope) (IsNamed text) into (HasPair o.policy scope) (HasPairOf o.policy (IsNamed text)) (λ store work has. (scope, λ t p. (into t p, back t p), has)) m))
   pair_says (inr n) = pair_merged files_of given before o whole text not (inr (inl (no_pair_of files_of given before o whole (InScope scope) (IsNamed text) back n)))
 
-  pub asked_pair : (result : Result (Option (List ℕ)) NoMemory) → MergesAt given o whole old new arm later false (TellsOfHanded files_of given before o (InScope scope)) Pair result
-      → MergesAt given o whole old new arm later text.whole (TellsOfHanded files_of given before o (IsNamed text)) (MergesAsAsked files_of given before o whole text) result
+  pub asked_pair : (result : Result (Option (List ℕ)) NoMemory) → MergesAt given o whole old new arm later false (TellsOfHanded files_of given before o whole (InScope scope)) Never Pair result
+      → MergesAt given o whole old new arm later text.whole (TellsOfHanded files_of given before o whole (IsNamed text)) (TellsOfBusy files_of given before o whole (IsNamed text)) (MergesAsAsked files_of given before o whole text) result
   asked_pair result m =
-      merges_as given o whole old new arm later false text.whole (TellsOfHanded files_of given before o (InScope scope)) (TellsOfHanded files_of given before o (IsNamed text))
-      Pair (MergesAsAsked files_of given before o whole text) (λ bad. cc) (tells_of files_of given before o whole (InScope scope) (IsNamed text) into) pair_says result m
+      merges_as given o whole old new arm later false text.whole (TellsOfHanded files_of given before o whole (InScope scope)) (TellsOfHanded files_of given before o whole (IsNamed text)) Never (TellsOfBusy files_of given before o whole (IsNamed text))
+      Pair (MergesAsAsked files_of given before o whole text) (λ bad. cc) (tells_of files_of given before o whole (InScope scope) (IsNamed text) into) (λ reply never. absurd never) pair_says result m
 
 -- with FINAL, of a table or of a partition
 module _ {F : Type 0} (files_of : F → Option Files) (given : Premise → Type 0) (before : History) (o : AtOpening) (whole : ℕ) (old new : Tally) (arm later : ℕ) (text : OptimizeText) (final : text.whole ≡ true) (These : List ℕ → Partition → Type 0)
     (into : (t : List ℕ) (p : Partition) → These t p → IsNamed text t p) (Shows : Type 0) (says : Shows → MergesAsAsked files_of given before o whole text) where
-  pub asked_final : (result : Result (Option (List ℕ)) NoMemory) → MergesAt given o whole old new arm later true (TellsOfHanded files_of given before o These) Shows result
-      → MergesAt given o whole old new arm later text.whole (TellsOfHanded files_of given before o (IsNamed text)) (MergesAsAsked files_of given before o whole text) result
+  pub asked_final : (result : Result (Option (List ℕ)) NoMemory)
+      → MergesAt given o whole old new arm later true (TellsOfHanded files_of given before o whole These) (TellsOfBusy files_of given before o whole These) Shows result
+      → MergesAt given o whole old new arm later text.whole (TellsOfHanded files_of given before o whole (IsNamed text)) (TellsOfBusy files_of given before o whole (IsNamed text)) (MergesAsAsked files_of given before o whole text) result
   asked_final result m =
-      merges_as given o whole old new arm later true text.whole (TellsOfHanded files_of given before o These) (TellsOfHanded files_of given before o (IsNamed text))
-      Shows (MergesAsAsked files_of given before o whole text) (λ any. final) (tells_of files_of given before o whole These (IsNamed text) into) says result m
+      merges_as given o whole old new arm later true text.whole (TellsOfHanded files_of given before o whole These) (TellsOfHanded files_of given before o whole (IsNamed text)) (TellsOfBusy files_of given before o whole These) (TellsOfBusy files_of given before o whole (IsNamed text))
+      Shows (MergesAsAsked files_of given before o whole text) (λ any. final) (tells_of files_of given before o whole These (IsNamed text) into) (busy_of files_of given before o whole These (IsNamed text) into) says result m
 
 -- where no partition is spelled so
 module _ {F : Type 0} (files_of : F → Option Files) (given : Premise → Type 0) (before : History) (o : AtOpening) (whole : ℕ) (text : OptimizeText) (id : List ℕ) (there : text.partition ≡ Some id) (none : (t : List ℕ) (p : Partition) → IsNamed text t p → ⊥) where

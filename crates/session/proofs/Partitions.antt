@@ -11,11 +11,11 @@ use Rattle.std.proofs.Math.Seq.{get_or-append_seam}
 use Rattle.mt_base.specs.declared.partition.Partition.{Partition}
 use Rattle.mt_base.specs.declared.partition.Partition.TheVariants.{Whole, Number}
 use Rattle.mt_base.specs.contracts.partition.PartitionPartialEq.TheImpl as derived
-use Rattle.shared_store.specs.part_set.declared.kept.Kept.{Kept}
-use Rattle.shared_store.specs.part_set.Parts.{IsInBlockOrder, StandsClear, partition_rank}
-use Rattle.shared_store.proofs.PartSetItems.{item_none}
-use Rattle.shared_store.proofs.PartSetOrders.{partition_low}
-use Rattle.shared_store.proofs.RootStoreItems.{mapped}
+use Rattle.merge_workers.specs.shared_store.part_set.declared.kept.Kept.{Kept}
+use Rattle.merge_workers.specs.shared_store.part_set.Parts.{IsInBlockOrder, StandsClear, partition_rank}
+use Rattle.merge_workers.proofs.PartSetItems.{item_none}
+use Rattle.merge_workers.proofs.PartSetOrders.{partition_low}
+use Rattle.merge_workers.proofs.RootStoreItems.{mapped}
 use Rattle.session.specs.Merges.{ArePartitionsOf, partitions_in}
 
 -- the place of a partition among all tells it from the others

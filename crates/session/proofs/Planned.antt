@@ -15,10 +15,10 @@ use Rattle.mt_values.specs.Granules.{chosen_of, granules, mark_keys}
 use Rattle.mt_values.specs.Schemas.{schema_fault}
 use Rattle.mt_values.specs.Tests.{eval}
 use Rattle.mt_values.specs.Values.{Row}
-use Rattle.shared_store.specs.part_reader.declared.reading.Part.{Part}
-use Rattle.shared_store.specs.part_set.declared.kept.Kept.{Kept}
-use Rattle.shared_store.specs.part_writer.declared.loaded.Loaded.{Loaded}
-use Rattle.shared_store.specs.part_writer.PartFiles.{HasIndexes, indexes_of, loaded_of}
+use Rattle.merge_workers.specs.shared_store.part_reader.declared.reading.Part.{Part}
+use Rattle.merge_workers.specs.shared_store.part_set.declared.kept.Kept.{Kept}
+use Rattle.merge_workers.specs.shared_store.part_writer.declared.loaded.Loaded.{Loaded}
+use Rattle.merge_workers.specs.shared_store.part_writer.PartFiles.{HasIndexes, indexes_of, loaded_of}
 use Rattle.replies.specs.predicate.Boxes.{can, only_column}
 use Rattle.replies.specs.predicate.Granules.{chosen_in}
 use Rattle.replies.specs.predicate.Indexes.{blocks_kept, chosen_by_index, chosen_of_rows}

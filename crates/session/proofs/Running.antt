@@ -14,19 +14,19 @@ use Rattle.replies.specs.mt_model.Reply.{ok_line}
 use Rattle.replies.specs.mt_model.Session.{Accepts, Adds, AddsNothing, IsNextCommand, RefusedInTurn, StopsAfter, TakesCommands, TurnAllows}
 use Rattle.replies.specs.Foreseen.{AgreesWith}
 use Rattle.replies.proofs.MtModelGrowing.{accepts_more, nothing_more, stays}
-use Rattle.shared_store.specs.durable_commit.Commits.{entry_of}
-use Rattle.shared_store.specs.history_seat.declared.view.View.{View}
-use Rattle.shared_store.specs.history_seat.Turns.{Added, AddsNone}
-use Rattle.shared_store.specs.history_seat.Views.{Begins, own as own_entries}
-use Rattle.shared_store.specs.Handed.{MayEnter}
-use Rattle.shared_store.specs.Sharing.{AtOpening, schema_there}
-use Rattle.shared_store.specs.Stood.{Premise, is_listed, is_told}
+use Rattle.merge_workers.specs.shared_store.durable_commit.Commits.{entry_of}
+use Rattle.merge_workers.specs.shared_store.history_seat.declared.view.View.{View}
+use Rattle.merge_workers.specs.shared_store.history_seat.Turns.{Added, AddsNone}
+use Rattle.merge_workers.specs.shared_store.history_seat.Views.{Begins, own as own_entries}
+use Rattle.merge_workers.specs.shared_store.Handed.{MayEnter}
+use Rattle.merge_workers.specs.shared_store.Sharing.{AtOpening, schema_there}
+use Rattle.merge_workers.specs.shared_store.Stood.{Premise, is_listed, is_told}
 use Rattle.session.specs.declared.sealing.SealedBlock.{SealedBlock}
 use Rattle.session.specs.declared.turns.TurnReply.{TurnReply}
 use Rattle.session.specs.declared.turns.TurnReply.TheVariants.{Accepted, Refused}
 use Rattle.session.specs.Answers.{Having, LacksCommand, MayHaveTurnsAt, SaysTried, StaysSession, TriesCommand, TriesFrom, TriesNone, TurnAt, met_by, place_of}
 use Rattle.session.specs.Turns.{IsPartFor, IsRowsFor, commands_in_turn, in_turn, part_command, replied}
-use Rattle.shared_store.proofs.Schemas.{there_begins}
+use Rattle.merge_workers.proofs.SharedStoreSchemas.{there_begins}
 use Rattle.session.proofs.Answering.{stays_then}
 use Rattle.session.proofs.Commits.{added_front, looked_at}
 use Rattle.session.proofs.Seats.{added_one}

@@ -13,13 +13,13 @@ use Rattle.replies.specs.Foreseen.{is_unsettled}
 use Rattle.replies.proofs.Meeting.{agrees_before, some_agrees}
 use Rattle.replies.proofs.MtModelGained.{next_more}
 use Rattle.replies.proofs.MtModelReplies.{replies_append, replies_more}
-use Rattle.shared_store.specs.durable_commit.Commits.{entry_of}
-use Rattle.shared_store.specs.history_seat.Turns.{IsSession}
-use Rattle.shared_store.specs.history_seat.Views.{Begins, own}
-use Rattle.shared_store.specs.history_seat.declared.view.View.{View}
-use Rattle.shared_store.specs.Sharing.{AtOpening}
-use Rattle.shared_store.specs.Stood.{Premise, is_held, is_told}
-use Rattle.shared_store.specs.Tallies.{Tally}
+use Rattle.merge_workers.specs.shared_store.durable_commit.Commits.{entry_of}
+use Rattle.merge_workers.specs.shared_store.history_seat.Turns.{IsSession}
+use Rattle.merge_workers.specs.shared_store.history_seat.Views.{Begins, own}
+use Rattle.merge_workers.specs.shared_store.history_seat.declared.view.View.{View}
+use Rattle.merge_workers.specs.shared_store.Sharing.{AtOpening}
+use Rattle.merge_workers.specs.shared_store.Stood.{Premise, is_held, is_told}
+use Rattle.merge_workers.specs.shared_store.Tallies.{Tally}
 use Rattle.session.specs.Runs.{EndsRun, HasRun, IsTried, RanTo, StandsStill, TriedLast, stops_told}
 use Rattle.session.specs.Answers.{AccountsAt, AnswersAt, Having, KnowsOwn, LacksCommand, StaysSession, SaysTried, StaysStopped, TellsAt, TriesAt, having, met_by, place_of, stops_of}
 use Rattle.session.proofs.Answering.{stays_here, stays_then}
@@ -214,7 +214,7 @@ module _ (given : Premise → Type 0) (before : History) (o : AtOpening) (whole 
             )
 
   -- a statement that was answered
-  module _ {F : Type 0} (files_of : F → Option Files) (st : Item) (reply : List ℕ) (answers : AnswersAt given before o whole st mid new (Ok reply)) (accounts : AccountsAt o whole mid new (TellsAt files_of given before o new.seat.list st) (Ok reply)) (stops : StaysStopped mid new (Ok reply)) (tries : TriesAt given before st mid new (Ok reply)) where
+  module _ {F : Type 0} (files_of : F → Option Files) (st : Item) (reply : List ℕ) (answers : AnswersAt given before o whole st mid new (Ok reply)) (accounts : AccountsAt o whole mid new (TellsAt files_of given before o whole new.seat.list st) (Ok reply)) (stops : StaysStopped mid new (Ok reply)) (tries : TriesAt given before st mid new (Ok reply)) where
     all : RanTo given before o whole (ran ++ st ∷ []) (replies ++ reply ∷ []) old new (place_of before new.seat)
     all = λ told known n a.
         replies_append n (before ++ new.seat.list) old.seat.number ran st (place_of before old.seat) (place_of before mid.seat) (place_of before new.seat) replies reply (longer ran replies (place_of before mid.seat) r.each told known n a)
@@ -264,7 +264,7 @@ module _ (given : Premise → Type 0) (before : History) (o : AtOpening) (whole 
     }
       where
         calm : given is_told → given is_held → (b : Bool) → is_damage reply ≡ b → b ≡ false
-        calm told held true is = absurd (tells_not files_of given before o new.seat.list st reply told held (accounts.damaged is))
+        calm told held true is = absurd (tells_not files_of given before o whole new.seat.list st reply told held (accounts.damaged is))
         calm told held false is = refl
 
   -- a statement that was not

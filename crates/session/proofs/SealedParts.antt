@@ -10,11 +10,11 @@ use Rattle.mt_values.specs.Values.{FitsType, Row}
 use Rattle.mt_values.proofs.Grids.{AreRowsOf-picked}
 use Rattle.mt_outside.specs.Files.{Files}
 use Rattle.replies.specs.mt_model.History.{column_types}
-use Rattle.shared_store.specs.digest_file.Spellings.{IsManifestOf}
-use Rattle.shared_store.proofs.PartReaderHolding.{sealed_folder}
-use Rattle.shared_store.specs.part_writer.declared.loaded.Loaded.{Loaded}
-use Rattle.shared_store.specs.part_writer.PartFiles.{all_synced, files_of_part, loaded_of}
-use Rattle.shared_store.specs.root_commits.Commits.{IsSealedOf, part_rows}
+use Rattle.merge_workers.specs.shared_store.digest_file.Spellings.{IsManifestOf}
+use Rattle.merge_workers.proofs.PartReaderHolding.{sealed_folder}
+use Rattle.merge_workers.specs.shared_store.part_writer.declared.loaded.Loaded.{Loaded}
+use Rattle.merge_workers.specs.shared_store.part_writer.PartFiles.{all_synced, files_of_part, loaded_of}
+use Rattle.merge_workers.specs.shared_store.root_commits.Commits.{IsSealedOf, part_rows}
 use Rattle.session.proofs.Selecting.{ordered_is_sorted}
 
 module _ (schema : Schema) (block : Grid) (order : List ℕ) (types : block.types ≡ column_types schema) (by : IsOrderBy (sorting_columns schema) block.rows order) (typed : AreRowsOf block.types block.rows) where

@@ -8,9 +8,9 @@ use Rattle.mt_values.specs.declared.command.Entry.{Entry}
 use Rattle.replies.specs.mt_model.History.{History, own}
 use Rattle.replies.specs.mt_model.Session.{Adds, AddsNothing}
 use Rattle.replies.proofs.MtModelGrowing.{adds_last, nothing_more}
-use Rattle.shared_store.specs.history_seat.declared.view.View.{View}
-use Rattle.shared_store.specs.history_seat.Turns.{Added, AddsNone}
-use Rattle.shared_store.specs.history_seat.Views.{Begins, own as own_entries}
+use Rattle.merge_workers.specs.shared_store.history_seat.declared.view.View.{View}
+use Rattle.merge_workers.specs.shared_store.history_seat.Turns.{Added, AddsNone}
+use Rattle.merge_workers.specs.shared_store.history_seat.Views.{Begins, own as own_entries}
 use Rattle.session.specs.Answers.{KnowsOwn}
 
 -- ---- lists

@@ -16,12 +16,12 @@ use Rattle.replies.specs.mt_model.Live.{live}
 use Rattle.final_fold.specs.part_history.declared.part.CorePart.{CorePart}
 use Rattle.final_fold.specs.part_history.Parts.{PartStands}
 use Rattle.final_fold.proofs.PartHistoryOwnRows.{own_rows}
-use Rattle.shared_store.specs.part_reader.declared.reading.Part.{Part}
-use Rattle.shared_store.specs.part_set.declared.kept.Kept.{Kept}
-use Rattle.shared_store.specs.part_set.declared.kept.Snap.{Snap}
-use Rattle.shared_store.specs.root_store.declared.store.CoreStore.{CoreStore}
-use Rattle.shared_store.specs.root_store.Stores.{CoreStands, core_parts}
-use Rattle.shared_store.proofs.RootStoreTableMarks.{has_marks}
+use Rattle.merge_workers.specs.shared_store.part_reader.declared.reading.Part.{Part}
+use Rattle.merge_workers.specs.shared_store.part_set.declared.kept.Kept.{Kept}
+use Rattle.merge_workers.specs.shared_store.part_set.declared.kept.Snap.{Snap}
+use Rattle.merge_workers.specs.shared_store.root_store.declared.store.CoreStore.{CoreStore}
+use Rattle.merge_workers.specs.shared_store.root_store.Stores.{CoreStands, core_parts}
+use Rattle.merge_workers.proofs.RootStoreTableMarks.{has_marks}
 use Rattle.final_fold.specs.select_plan.Plans.{asked_each, asked_part, planned, read_of}
 use Rattle.final_fold.proofs.SelectPlanPlanning.{each_asked}
 use Rattle.final_fold.specs.declared.asking.Wanted.{Wanted}
@@ -31,7 +31,7 @@ use Rattle.final_fold.specs.Matches.{HoldEachMatch, MeetWhereUnasked, asked_of, 
 use Rattle.final_fold.specs.row_merge.MergedParts.{PartsHold}
 use Rattle.final_fold.specs.Scans.{joined_rows, values_at}
 use Rattle.final_fold.proofs.Scanning.{joined_typed}
-use Rattle.shared_store.specs.Engines.{IsSnapOf}
+use Rattle.merge_workers.specs.shared_store.Engines.{IsSnapOf}
 use Rattle.session.specs.Selects.{AddsSeen, IsSeen}
 use Rattle.session.proofs.FinalReads.{are_of_partitions, folded_of, folded_typed, skip_no_fold, stand_parted}
 use Rattle.session.proofs.Matching.{plans_hold, plans_sure}

@@ -8,18 +8,18 @@ use Rattle.mt_outside.specs.Files.{Files}
 use Rattle.replies.specs.mt_model.History.{History, schema_of}
 use Rattle.replies.specs.mt_model.Live.{live}
 use Rattle.replies.specs.mt_model.Partial.{Partly}
-use Rattle.shared_store.specs.part_reader.declared.reading.Part.{Part}
-use Rattle.shared_store.specs.part_set.declared.kept.Kept.{Kept}
-use Rattle.shared_store.specs.part_set.Sets.{parts_of}
+use Rattle.merge_workers.specs.shared_store.part_reader.declared.reading.Part.{Part}
+use Rattle.merge_workers.specs.shared_store.part_set.declared.kept.Kept.{Kept}
+use Rattle.merge_workers.specs.shared_store.part_set.Sets.{parts_of}
 use Rattle.final_fold.specs.part_history.Parts.{AreInBlockOrder, TableStands, rows_of_parts, rows_seen_of}
 use Rattle.final_fold.proofs.PartHistoryJoined.{parts_joined}
-use Rattle.shared_store.specs.root_store.declared.store.CoreStore.{CoreStore}
-use Rattle.shared_store.specs.root_store.declared.store.Table.{Table}
-use Rattle.shared_store.specs.root_store.Stores.{CoreStands, core_parts, table_at}
-use Rattle.shared_store.specs.part_set.declared.kept.Snap.{Snap}
+use Rattle.merge_workers.specs.shared_store.root_store.declared.store.CoreStore.{CoreStore}
+use Rattle.merge_workers.specs.shared_store.root_store.declared.store.Table.{Table}
+use Rattle.merge_workers.specs.shared_store.root_store.Stores.{CoreStands, core_parts, table_at}
+use Rattle.merge_workers.specs.shared_store.part_set.declared.kept.Snap.{Snap}
 use Rattle.final_fold.specs.row_merge.MergedParts.{PartsHold}
 use Rattle.final_fold.specs.Scans.{joined_rows}
-use Rattle.shared_store.specs.Engines.{IsSnapOf}
+use Rattle.merge_workers.specs.shared_store.Engines.{IsSnapOf}
 
 rows_joined : {F : Type 0} (files_of : F → Option Files) (schema : Schema) (table : List ℕ) (kept : List (Kept (Part F))) (rows : List (List Row)) → PartsHold files_of schema kept rows
     → rows_of_parts (core_parts table kept rows) ≡ joined_rows rows

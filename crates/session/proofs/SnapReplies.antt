@@ -11,15 +11,15 @@ use Rattle.replies.specs.mt_model.Refusals.{refusal_line}
 use Rattle.replies.specs.mt_model.Session.{AddsNothing, Takes}
 use Rattle.replies.specs.Foreseen.{Explained}
 use Rattle.replies.proofs.Refusing.{explain_from, explain_refused, select_from, select_refused}
-use Rattle.shared_store.specs.history_seat.declared.view.View.{View}
-use Rattle.shared_store.specs.history_seat.Turns.{Looked}
-use Rattle.shared_store.specs.part_reader.declared.reading.Part.{Part}
-use Rattle.shared_store.specs.part_set.declared.kept.Snap.{Snap}
-use Rattle.shared_store.specs.Engines.{IsSnapOf}
-use Rattle.shared_store.specs.Handed.{IsPinned, Pins, ShowsTable}
-use Rattle.shared_store.specs.Sharing.{AtOpening}
-use Rattle.shared_store.specs.Stood.{Premise, is_listed, is_told}
-use Rattle.shared_store.specs.Tallies.{Tally}
+use Rattle.merge_workers.specs.shared_store.history_seat.declared.view.View.{View}
+use Rattle.merge_workers.specs.shared_store.history_seat.Turns.{Looked}
+use Rattle.merge_workers.specs.shared_store.part_reader.declared.reading.Part.{Part}
+use Rattle.merge_workers.specs.shared_store.part_set.declared.kept.Snap.{Snap}
+use Rattle.merge_workers.specs.shared_store.Engines.{IsSnapOf}
+use Rattle.merge_workers.specs.shared_store.Handed.{IsPinned, Pins, ShowsTable}
+use Rattle.merge_workers.specs.shared_store.Sharing.{AtOpening}
+use Rattle.merge_workers.specs.shared_store.Stood.{Premise, is_listed, is_told}
+use Rattle.merge_workers.specs.shared_store.Tallies.{Tally}
 use Rattle.session.specs.Merges.{IsRefusal}
 use Rattle.session.specs.Answers.{AnswersAt, CountsPinned, ExplainsAt, KnowsOwn, SelectsAt, having, place_of}
 use Rattle.session.specs.Selects.{CountsPlan, ReadsParts, SelectsFrom}

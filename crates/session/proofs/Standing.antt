@@ -8,15 +8,15 @@ use Rattle.mt_values.specs.Values.{Row}
 use Rattle.mt_outside.specs.Files.{Files}
 use Rattle.replies.specs.mt_model.History.{History, creates, inserts, schema_of}
 use Rattle.replies.specs.mt_model.Numbers.{last_number}
-use Rattle.shared_store.specs.part_reader.declared.reading.Part.{Part}
-use Rattle.shared_store.specs.part_set.declared.kept.Kept.{Kept}
-use Rattle.shared_store.specs.part_set.Parts.{kept_in}
-use Rattle.shared_store.specs.part_set.Sets.{parts_of}
+use Rattle.merge_workers.specs.shared_store.part_reader.declared.reading.Part.{Part}
+use Rattle.merge_workers.specs.shared_store.part_set.declared.kept.Kept.{Kept}
+use Rattle.merge_workers.specs.shared_store.part_set.Parts.{kept_in}
+use Rattle.merge_workers.specs.shared_store.part_set.Sets.{parts_of}
 use Rattle.final_fold.specs.part_history.Parts.{parts_in}
 use Rattle.final_fold.proofs.PartHistoryCounted.{parts_at_most}
-use Rattle.shared_store.specs.root_store.declared.store.CoreStore.{CoreStore}
-use Rattle.shared_store.specs.root_store.declared.store.Table.{Table}
-use Rattle.shared_store.specs.root_store.Stores.{CoreStands, core_part, core_parts, table_at}
+use Rattle.merge_workers.specs.shared_store.root_store.declared.store.CoreStore.{CoreStore}
+use Rattle.merge_workers.specs.shared_store.root_store.declared.store.Table.{Table}
+use Rattle.merge_workers.specs.shared_store.root_store.Stores.{CoreStands, core_part, core_parts, table_at}
 use Rattle.final_fold.specs.row_merge.MergedParts.{PartsHold}
 
 -- as many parts of a partition are kept as stand

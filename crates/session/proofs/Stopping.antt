@@ -3,16 +3,16 @@ use Rattle.std.proofs.Common.{◌≡◌, ℕ, ◌<◌, Bool, true, false, cond, 
 use Rattle.std.proofs.lemmas.Bool.Decides.{nat_tests}
 use Rattle.mt_base.specs.declared.partition.Partition.{Partition}
 use Rattle.replies.specs.mt_model.Refusals.{is_damage}
-use Rattle.shared_store.specs.part_set.Parts.{kept_in}
-use Rattle.shared_store.specs.part_set.Sets.{parts_of}
-use Rattle.shared_store.specs.durable_commit.declared.causes.Limit.TheVariants as limit
-use Rattle.shared_store.specs.durable_commit.declared.causes.Refused.{Refused}
-use Rattle.shared_store.specs.durable_commit.declared.causes.Refused.TheVariants as refused
-use Rattle.shared_store.specs.durable_commit.Commits.{stopped_by}
-use Rattle.shared_store.specs.root_store.declared.store.CoreStore.{CoreStore}
-use Rattle.shared_store.specs.root_store.declared.store.Table.{Table}
-use Rattle.shared_store.specs.root_commits.Commits.{IsCause, refuses_create, refuses_part}
-use Rattle.shared_store.specs.root_store.Stores.{table_at}
+use Rattle.merge_workers.specs.shared_store.part_set.Parts.{kept_in}
+use Rattle.merge_workers.specs.shared_store.part_set.Sets.{parts_of}
+use Rattle.merge_workers.specs.shared_store.durable_commit.declared.causes.Limit.TheVariants as limit
+use Rattle.merge_workers.specs.shared_store.durable_commit.declared.causes.Refused.{Refused}
+use Rattle.merge_workers.specs.shared_store.durable_commit.declared.causes.Refused.TheVariants as refused
+use Rattle.merge_workers.specs.shared_store.durable_commit.Commits.{stopped_by}
+use Rattle.merge_workers.specs.shared_store.root_store.declared.store.CoreStore.{CoreStore}
+use Rattle.merge_workers.specs.shared_store.root_store.declared.store.Table.{Table}
+use Rattle.merge_workers.specs.shared_store.root_commits.Commits.{IsCause, refuses_create, refuses_part}
+use Rattle.merge_workers.specs.shared_store.root_store.Stores.{table_at}
 use Rattle.session.specs.Stops.{IsLineOf}
 
 -- what the store showed nothing against has room

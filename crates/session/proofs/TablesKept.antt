@@ -2,12 +2,12 @@
 use Rattle.std.proofs.Common.{◌≡◌, ◌∙◌, ◌++◌, ℕ, List, Some, None, sym, ap, subst, append_assoc}
 use Rattle.mt_values.specs.declared.schema.Schema.{Schema}
 use Rattle.replies.specs.mt_model.History.{History, schema_of}
-use Rattle.shared_store.specs.history_seat.Views.{Begins}
-use Rattle.shared_store.specs.Handed.{GivesSchema}
-use Rattle.shared_store.specs.Sharing.{AtOpening, schema_there}
-use Rattle.shared_store.specs.Stood.{Premise, is_listed, is_told}
-use Rattle.shared_store.proofs.MtModelHistories.{schema_kept}
-use Rattle.shared_store.proofs.Schemas.{there_begins}
+use Rattle.merge_workers.specs.shared_store.history_seat.Views.{Begins}
+use Rattle.merge_workers.specs.shared_store.Handed.{GivesSchema}
+use Rattle.merge_workers.specs.shared_store.Sharing.{AtOpening, schema_there}
+use Rattle.merge_workers.specs.shared_store.Stood.{Premise, is_listed, is_told}
+use Rattle.merge_workers.proofs.MtModelHistories.{schema_kept}
+use Rattle.merge_workers.proofs.SharedStoreSchemas.{there_begins}
 
 module _ (given : Premise → Type 0) (before : History) (o : AtOpening) (table : List ℕ) where
   -- the lists have no such table, and neither has the whole history

@@ -15,17 +15,17 @@ use Rattle.replies.specs.mt_model.Reply.{schema_of_text}
 use Rattle.replies.specs.mt_model.Session.{IsNextCommand, StopsAfter}
 use Rattle.replies.specs.Foreseen.{is_unsettled}
 use Rattle.replies.proofs.MtModelGrowing.{stays}
-use Rattle.shared_store.specs.durable_commit.declared.causes.Refused.{Refused}
-use Rattle.shared_store.specs.durable_commit.declared.causes.Refused.TheVariants as refused
-use Rattle.shared_store.specs.durable_commit.Commits.{IsOutside, entry_of}
-use Rattle.shared_store.specs.history_seat.declared.view.View.{View}
-use Rattle.shared_store.specs.history_seat.Turns.{AddsNone, Looked}
-use Rattle.shared_store.specs.root_commits.declared.commits.Returned.{Returned}
-use Rattle.shared_store.specs.Handed.{insert_there}
-use Rattle.shared_store.specs.Sharing.{AtOpening, schema_there}
-use Rattle.shared_store.specs.Stood.{Premise}
-use Rattle.shared_store.specs.Tallies.{Tally, stops_in}
-use Rattle.shared_store.specs.Turns.{HasTurn, IsBack, ShowsCreate, ShowsPart, left_of}
+use Rattle.merge_workers.specs.shared_store.durable_commit.declared.causes.Refused.{Refused}
+use Rattle.merge_workers.specs.shared_store.durable_commit.declared.causes.Refused.TheVariants as refused
+use Rattle.merge_workers.specs.shared_store.durable_commit.Commits.{IsOutside, entry_of}
+use Rattle.merge_workers.specs.shared_store.history_seat.declared.view.View.{View}
+use Rattle.merge_workers.specs.shared_store.history_seat.Turns.{AddsNone, Looked}
+use Rattle.merge_workers.specs.shared_store.root_commits.declared.commits.Returned.{Returned}
+use Rattle.merge_workers.specs.shared_store.Handed.{insert_there}
+use Rattle.merge_workers.specs.shared_store.Sharing.{AtOpening, schema_there}
+use Rattle.merge_workers.specs.shared_store.Stood.{Premise}
+use Rattle.merge_workers.specs.shared_store.Tallies.{Tally, stops_in}
+use Rattle.merge_workers.specs.shared_store.Turns.{HasTurn, IsBack, ShowsCreate, ShowsPart, left_of}
 use Rattle.session.specs.Answers.{KnowsOwn, SaysTried, TriesAt, TriesCommand, TriesFrom, Having, having, place_of}
 use Rattle.session.specs.declared.turns.TurnReply.{TurnReply}
 use Rattle.session.specs.Stops.{IsLineOf}

@@ -24,17 +24,17 @@ use Rattle.replies.specs.mt_model.Session.{Adds, AddsNothing, RefusedInTurn, Sto
 use Rattle.replies.specs.Foreseen.{AgreesWith, Met}
 use Rattle.replies.proofs.Meeting.{commit_counted, stop_counted}
 use Rattle.replies.proofs.MtModelGrowing.{stays}
-use Rattle.shared_store.specs.durable_commit.declared.causes.Limit.TheVariants as limit
-use Rattle.shared_store.specs.durable_commit.declared.causes.Refused.{Refused}
-use Rattle.shared_store.specs.durable_commit.declared.causes.Refused.TheVariants as refused
-use Rattle.shared_store.specs.durable_commit.Commits.{stopped_by}
-use Rattle.shared_store.specs.part_set.Parts.{kept_in}
-use Rattle.shared_store.specs.part_set.Sets.{parts_of}
-use Rattle.shared_store.specs.root_commits.Commits.{IsCause, partition_of_block, refuses_create, refuses_part}
-use Rattle.shared_store.specs.root_store.declared.store.CoreStore.{CoreStore}
-use Rattle.shared_store.specs.root_store.declared.store.Table.{Table}
-use Rattle.shared_store.specs.root_store.Stores.{CoreStands, table_at}
-use Rattle.shared_store.specs.Tallies.{stops_in}
+use Rattle.merge_workers.specs.shared_store.durable_commit.declared.causes.Limit.TheVariants as limit
+use Rattle.merge_workers.specs.shared_store.durable_commit.declared.causes.Refused.{Refused}
+use Rattle.merge_workers.specs.shared_store.durable_commit.declared.causes.Refused.TheVariants as refused
+use Rattle.merge_workers.specs.shared_store.durable_commit.Commits.{stopped_by}
+use Rattle.merge_workers.specs.shared_store.part_set.Parts.{kept_in}
+use Rattle.merge_workers.specs.shared_store.part_set.Sets.{parts_of}
+use Rattle.merge_workers.specs.shared_store.root_commits.Commits.{IsCause, partition_of_block, refuses_create, refuses_part}
+use Rattle.merge_workers.specs.shared_store.root_store.declared.store.CoreStore.{CoreStore}
+use Rattle.merge_workers.specs.shared_store.root_store.declared.store.Table.{Table}
+use Rattle.merge_workers.specs.shared_store.root_store.Stores.{CoreStands, table_at}
+use Rattle.merge_workers.specs.shared_store.Tallies.{stops_in}
 use Rattle.session.specs.Stops.{IsLineOf}
 use Rattle.session.proofs.Creating.{created, turn_free, turn_full, turn_taken}
 use Rattle.session.proofs.Inserting.{inserted, turn_free as room_free, turn_full as room_full, turn_spent}

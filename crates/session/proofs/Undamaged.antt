@@ -12,17 +12,17 @@ use Rattle.mt_values.specs.Script.{Item}
 use Rattle.mt_values.specs.Values.{Row}
 use Rattle.mt_outside.specs.Files.{Files}
 use Rattle.replies.specs.mt_model.History.{History, IsTableSchema}
-use Rattle.shared_store.specs.part_name.declared.part.PartName.{PartName}
-use Rattle.shared_store.specs.part_reader.declared.reading.Part.{Part}
-use Rattle.shared_store.specs.part_reader.declared.reading.PartFault.{PartFault}
-use Rattle.shared_store.specs.part_reader.declared.reading.PartFault.TheVariants as fault
-use Rattle.shared_store.specs.part_reader.Faults.{IsNoDamage}
-use Rattle.shared_store.specs.part_set.declared.kept.Kept.{Kept}
-use Rattle.shared_store.specs.part_set.declared.kept.Snap.{Snap}
-use Rattle.shared_store.specs.root_store.Soundness.{HoldsRows}
-use Rattle.shared_store.specs.Sharing.{AtOpening}
-use Rattle.shared_store.specs.Stood.{Premise, is_held, is_told}
-use Rattle.shared_store.proofs.RootStoreTableMarks.{has_marks}
+use Rattle.merge_workers.specs.shared_store.part_name.declared.part.PartName.{PartName}
+use Rattle.merge_workers.specs.shared_store.part_reader.declared.reading.Part.{Part}
+use Rattle.merge_workers.specs.shared_store.part_reader.declared.reading.PartFault.{PartFault}
+use Rattle.merge_workers.specs.shared_store.part_reader.declared.reading.PartFault.TheVariants as fault
+use Rattle.merge_workers.specs.shared_store.part_reader.Faults.{IsNoDamage}
+use Rattle.merge_workers.specs.shared_store.part_set.declared.kept.Kept.{Kept}
+use Rattle.merge_workers.specs.shared_store.part_set.declared.kept.Snap.{Snap}
+use Rattle.merge_workers.specs.shared_store.root_store.Soundness.{HoldsRows}
+use Rattle.merge_workers.specs.shared_store.Sharing.{AtOpening}
+use Rattle.merge_workers.specs.shared_store.Stood.{Premise, is_held, is_told}
+use Rattle.merge_workers.proofs.RootStoreTableMarks.{has_marks}
 use Rattle.final_fold.specs.select_plan.Plans.{planned}
 use Rattle.final_fold.specs.declared.asking.Wanted.{Wanted}
 use Rattle.final_fold.specs.Matches.{SayOfEach}
@@ -59,14 +59,14 @@ pinned_sound files_of snap text reply sound t = read_sound files_of snap text.is
 
 -- ---- of what a session's seat knows
 
-pub tells_not : {F : Type 0} (files_of : F → Option Files) (given : Premise → Type 0) (before : History) (o : AtOpening) (list : History) (st : Item) (reply : List ℕ) → given is_told → given is_held → TellsAt files_of given before o list st reply → ⊥
-tells_not files_of given before o list (Ok (statement.Create c)) reply told held tells = tells
-tells_not files_of given before o list (Ok (statement.Insert i)) reply told held tells = tells
-tells_not files_of given before o list (Ok (statement.Select s)) reply told held t = pinned_sound files_of t.0 s reply (t.1.held told held) t.2
-tells_not files_of given before o list (Ok (statement.Explain s)) reply told held tells = tells
-tells_not {F} files_of given before o list (Ok (statement.Optimize p)) reply told held t =
+pub tells_not : {F : Type 0} (files_of : F → Option Files) (given : Premise → Type 0) (before : History) (o : AtOpening) (whole : ℕ) (list : History) (st : Item) (reply : List ℕ) → given is_told → given is_held → TellsAt files_of given before o whole list st reply → ⊥
+tells_not files_of given before o whole list (Ok (statement.Create c)) reply told held tells = tells
+tells_not files_of given before o whole list (Ok (statement.Insert i)) reply told held tells = tells
+tells_not files_of given before o whole list (Ok (statement.Select s)) reply told held t = pinned_sound files_of t.0 s reply (t.1.held told held) t.2
+tells_not files_of given before o whole list (Ok (statement.Explain s)) reply told held tells = tells
+tells_not {F} files_of given before o whole list (Ok (statement.Optimize p)) reply told held t =
     let work = t.work in
     let part = t.tells in
-    let own = All-contains (λ (k : Kept (Part F)). HoldsRows files_of work.schema k) work.sources.items part.kept (t.handed.held told held) part.here in
+    let own = All-contains (λ (k : Kept (Part F)). HoldsRows files_of work.schema k) work.sources.items part.kept (t.taken.handed.held told held) part.here in
     whole_sound files_of work.schema part.kept.part own.0 own.1 (fault.Damaged part.file part.place part.wanted part.found) part.explained
-tells_not files_of given before o list (Err why) reply told held tells = tells
+tells_not files_of given before o whole list (Err why) reply told held tells = tells

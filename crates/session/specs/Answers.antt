@@ -21,25 +21,26 @@ use Rattle.replies.specs.mt_model.Refusals.{code_of, is_damage, refusal_line}
 use Rattle.replies.specs.mt_model.Reply.{ok_line}
 use Rattle.replies.specs.mt_model.Session.{AddsNothing, IsNextCommand, RefusedInTurn, Takes, TurnAllows}
 use Rattle.replies.specs.Foreseen.{AgreesWith, Met, MetSince, is_unsettled}
-use Rattle.shared_store.specs.durable_commit.Commits.{entry_of}
-use Rattle.shared_store.specs.history_seat.declared.view.View.{View}
-use Rattle.shared_store.specs.history_seat.Turns.{Added, AddsNone, IsSession}
-use Rattle.shared_store.specs.history_seat.Views.{Begins, own}
-use Rattle.shared_store.specs.part_reader.declared.reading.Part.{Part}
-use Rattle.shared_store.specs.part_set.declared.kept.Snap.{Snap}
-use Rattle.shared_store.specs.declared.work.Work.{Work as Taken}
-use Rattle.shared_store.specs.Handed.{IsHanded, IsPinned, IsSchemaOf, ShowsTable}
-use Rattle.shared_store.specs.Engines.{choice_by}
-use Rattle.shared_store.specs.Sharing.{AtOpening, schema_there}
-use Rattle.shared_store.specs.Stood.{Premise, is_listed, is_told}
-use Rattle.shared_store.specs.Tallies.{Tally}
-use Rattle.shared_store.specs.Turns.{AtTurn, ShowsMerged}
-use Rattle.shared_store.specs.root_store.declared.store.CoreStore.{CoreStore}
-use Rattle.shared_store.specs.Works.{AnswersWhole, HasAll, HasPair}
-use Rattle.shared_store.specs.merge_select.Picks.{HasNone}
-use Rattle.shared_store.specs.mutation_queue.declared.scope.Scope.{Scope}
-use Rattle.shared_store.specs.mutation_queue.Scopes.{InScope}
-use Rattle.shared_store.specs.part_name.PartNames.{IsPartition, partition_text}
+use Rattle.merge_workers.specs.shared_store.durable_commit.Commits.{entry_of}
+use Rattle.merge_workers.specs.shared_store.history_seat.declared.view.View.{View}
+use Rattle.merge_workers.specs.shared_store.history_seat.Turns.{Added, AddsNone, IsSession}
+use Rattle.merge_workers.specs.shared_store.history_seat.Views.{Begins, own}
+use Rattle.merge_workers.specs.shared_store.part_reader.declared.reading.Part.{Part}
+use Rattle.merge_workers.specs.shared_store.part_set.declared.kept.Snap.{Snap}
+use Rattle.merge_workers.specs.shared_store.declared.work.Work.{Work as Taken}
+use Rattle.merge_workers.specs.shared_store.Handed.{IsHanded, IsPinned, IsSchemaOf, ShowsTable}
+use Rattle.merge_workers.specs.shared_store.Engines.{choice_by}
+use Rattle.merge_workers.specs.shared_store.Sharing.{AtOpening, schema_there}
+use Rattle.merge_workers.specs.shared_store.Stood.{Premise, is_listed, is_told}
+use Rattle.merge_workers.specs.shared_store.Tallies.{Tally}
+use Rattle.merge_workers.specs.shared_store.Turns.{AtTurn, ShowsDone, ShowsGone}
+use Rattle.merge_workers.specs.shared_store.root_store.declared.store.CoreStore.{CoreStore}
+use Rattle.merge_workers.specs.shared_store.Works.{AnswersWhole, HasAll, HasPair, HasParts}
+use Rattle.merge_workers.specs.shared_store.merge_select.Picks.{HasNone}
+use Rattle.merge_workers.specs.shared_store.mutation_queue.declared.scope.Scope.{Scope}
+use Rattle.merge_workers.specs.shared_store.mutation_queue.Scopes.{InScope}
+use Rattle.merge_workers.specs.shared_store.part_name.declared.part.PartName.{PartName}
+use Rattle.merge_workers.specs.shared_store.part_name.PartNames.{IsPartition, part_text, partition_text}
 use Rattle.session.specs.declared.sealing.SealedBlock.{SealedBlock}
 use Rattle.session.specs.declared.turns.TurnReply.{TurnReply}
 use Rattle.session.specs.declared.turns.TurnReply.TheVariants.{Accepted, Refused}
@@ -117,10 +118,10 @@ code_in (Some reply) = code_of reply
 abbrev pub MayMeet : Met → ℕ → Type 0
 MayMeet m count = (m.disk ≤ count) × (m.alone ≡ true → count ≡ m.disk)
 
--- What a reply tells of the disk's count and of levels, or none does, by what the session had met and has met then. It says that a commit failed only where the count rose in that turn; and that
--- the store was stopped by the count in that turn, which is above the one at opening. Else the count rose in no turn of the session. A limit of levels that was counted is told (docs/replies.md, "Faults").
+-- What a reply tells of the disk's count and of levels, or none does, by what the session had met and has met then. It says that a commit failed only where the count was the one at opening before and
+-- rose since; and that the store was stopped by a count that is above the one at opening, and that it may meet by then. Unless a commit failed the count rose in no turn of the session. A limit of levels that was counted is told (docs/replies.md, "Faults").
 pub record CountsAt (old new : Met) (reply : Option (List ℕ)) : Type 0 where
-  pub unsettled : code_in reply ≡ 16 → (count : ℕ) × MayMeet old count × Rose count (count + (new.disk - old.disk))
+  pub unsettled : code_in reply ≡ 16 → (old.disk ≡ old.opened) × (old.disk < new.disk)
   pub stopped : code_in reply ≡ 17 → (count accepted : ℕ) × MayMeet new count × (new.opened < count) × (reply ≡ Some (refusal_line (refusal.Stopped new.opened count accepted)))
   pub calm : (code_in reply ≡ 16 → ⊥) → new.disk ≡ old.disk
   pub levels : (new.levels ≡ old.levels) ⊎ ((reply ≡ Some (refusal_line (refusal.Past bound.Levels))) × (new.levels ≡ old.levels + 1))
@@ -216,30 +217,50 @@ TurnAt given before o whole c accepted old new (Err e) = (new.seat ≡ old.seat)
 abbrev pub IsThere : (Premise → Type 0) → History → (List ℕ → Option Schema) → History → List ℕ → Bool → Type 0
 IsThere given before tables list table there = IsSchemaOf given before tables list table × (is_some (schema_there tables list table) ≡ there)
 
--- The reply tells of damage of a part that was taken up to be merged: of a source of a work of one of these partitions, which was handed out (docs/replies.md, "Faults").
-pub record TellsOfHanded {F : Type 0} (files_of : F → Option Files) (given : Premise → Type 0) (before : History) (o : AtOpening) (These : List ℕ → Partition → Type 0) (reply : List ℕ) : Type 0 where
-  pub list : History
-  pub work : Taken F
-  pub handed : IsHanded files_of given before o list work
+-- a work of one of these partitions was taken up: it was handed out at a turn, and has these parts of the store that the turn found (docs/engines.md, "Which parts are merged")
+pub record WasTaken {F : Type 0} (files_of : F → Option Files) (given : Premise → Type 0) (before : History) (o : AtOpening) (whole : ℕ) (These : List ℕ → Partition → Type 0) (Has : CoreStore F → Taken F → Type 0) (work : Taken F) : Type 0 where
   pub these : These work.table work.partition
+  pub list : History
+  pub handed : IsHanded files_of given before o list work
+  pub share : Tally
+  pub turn : AtTurn files_of given before o list whole share (λ store failed. Has store work)
+
+-- The reply tells of damage of a part that was taken up to be merged: of a source of a work of one of these partitions (docs/replies.md, "Faults").
+pub record TellsOfHanded {F : Type 0} (files_of : F → Option Files) (given : Premise → Type 0) (before : History) (o : AtOpening) (whole : ℕ) (These : List ℕ → Partition → Type 0) (reply : List ℕ) : Type 0 where
+  pub work : Taken F
+  pub taken : WasTaken files_of given before o whole These HasParts work
   pub tells : TellsOfPart files_of work.table work.schema work.sources.items reply
 
--- a work was handed out, and at a turn of its own its parts became one, or one of them was gone by then (docs/engines.md, "Merges")
-pub record WasPut {F : Type 0} (files_of : F → Option Files) (given : Premise → Type 0) (before : History) (o : AtOpening) (whole : ℕ) (work : Taken F) : Type 0 where
+-- The reply names a part that is being merged: the first in block order which a turn found so in one of these partitions (docs/replies.md, "Refusals").
+pub record TellsOfBusy {F : Type 0} (files_of : F → Option Files) (given : Premise → Type 0) (before : History) (o : AtOpening) (whole : ℕ) (These : List ℕ → Partition → Type 0) (reply : List ℕ) : Type 0 where
+  pub table : List ℕ
+  pub partition : Partition
+  pub these : These table partition
+  pub part : PartName
   pub list : History
-  pub handed : IsHanded files_of given before o list work
-  pub found : History
   pub share : Tally
-  pub turn : AtTurn files_of given before o found whole share (ShowsMerged work)
+  pub turn : AtTurn files_of given before o list whole share (λ store failed. AnswersWhole store table partition (Err (record { name = part })))
+  pub reply_is : reply ≡ refusal_line (refusal.Busy (part_text part))
 
--- a work of one of these partitions was put, which had these parts of a store, at the turn in which it was taken up (docs/engines.md, "Which parts are merged")
+-- a work was put: a turn found its sources in their place, with their marks, and the store not stopped (docs/engines.md, "Merges")
+abbrev pub WasPut : {F : Type 0} → (F → Option Files) → (Premise → Type 0) → History → AtOpening → ℕ → Taken F → Type 0
+WasPut files_of given before o whole work = (found : History) × (share : Tally) × AtTurn files_of given before o found whole share (ShowsDone work)
+
+-- One of the sources of a work was gone: a turn found that it doesn't follow with its mark. The turn that took the work up found that as well, before it set the marks, so
+-- no more is known by this of what became of the work (docs/proved.md, "What no clause says").
+abbrev pub WasGone : {F : Type 0} → (F → Option Files) → (Premise → Type 0) → History → AtOpening → ℕ → Taken F → Type 0
+WasGone files_of given before o whole work =
+    (found : History) × (share : Tally) × (name : PartName) × AtTurn files_of given before o found whole share (ShowsGone work name)
+
+-- what becomes of a work that is carried out without a refusal (docs/engines.md, "Merges")
+abbrev pub WasCarriedOut : {F : Type 0} → (F → Option Files) → (Premise → Type 0) → History → AtOpening → ℕ → Taken F → Type 0
+WasCarriedOut files_of given before o whole work = WasPut files_of given before o whole work ⊎ WasGone files_of given before o whole work
+
+-- a work of one of these partitions was taken up, which had these parts; and it was put, or one of its sources was gone by then (docs/engines.md, "Which parts are merged")
 pub record WasMerged {F : Type 0} (files_of : F → Option Files) (given : Premise → Type 0) (before : History) (o : AtOpening) (whole : ℕ) (These : List ℕ → Partition → Type 0) (Has : CoreStore F → Taken F → Type 0) : Type 0 where
   pub work : Taken F
-  pub these : These work.table work.partition
-  pub at : History
-  pub by : Tally
-  pub taken : AtTurn files_of given before o at whole by (λ store failed. Has store work)
-  pub put : WasPut files_of given before o whole work
+  pub taken : WasTaken files_of given before o whole These Has work
+  pub ended : WasCarriedOut files_of given before o whole work
 
 -- the work has the pair that the policy takes in a scope that has just these partitions
 abbrev pub HasPairOf : {F : Type 0} → Policy → (List ℕ → Partition → Type 0) → CoreStore F → Taken F → Type 0
@@ -293,13 +314,14 @@ pub record MergesAsAsked {F : Type 0} (files_of : F → Option Files) (given : P
   pub pair : text.whole ≡ false
       → WasMerged files_of given before o whole (IsNamed text) (HasPairOf o.policy (IsNamed text)) ⊎ FoundNoPair files_of given before o whole (IsNamed text) ⊎ ((t : List ℕ) (p : Partition) → IsNamed text t p → ⊥)
 
--- What merges of one statement came to, some of which may have taken parts of the greatest level. All were done, as is shown then, and no call of the disk or the arm failed that shows. Or
+-- What merges of one statement came to, some of which may have taken parts of the greatest level. All were done, as is shown then, and the arm's count is as before. Or
 -- one was refused with a reply that it may have, whatever the outside comes to, so far as the premises held as the root was opened. Or memory ran out (docs/definitions-of-runs.md, "Statements taken").
-pub record MergesAt (given : Premise → Type 0) (o : AtOpening) (whole : ℕ) (old new : Tally) (arm_was arm : ℕ) (full : Bool) (Damage : List ℕ → Type 0) (Shows : Type 0) (result : Result (Option (List ℕ)) NoMemory) : Type 0 where
+pub record MergesAt (given : Premise → Type 0) (o : AtOpening) (whole : ℕ) (old new : Tally) (arm_was arm : ℕ) (full : Bool) (Damage Busy : List ℕ → Type 0) (Shows : Type 0) (result : Result (Option (List ℕ)) NoMemory) : Type 0 where
   pub takes : IfOk result (λ found. IfSome found (λ reply. given is_told → given is_listed → (n : Outside) → AgreesWith (met_with o whole new arm) n
       → ReadOrStageFailed n reply ⊎ ((full ≡ true) × (LevelFailed n reply ⊎ PartBusy n reply)) ⊎ TurnFailed n 0 reply))
   pub said : IfOk result (λ found. IfSome found IsRefusal)
   pub damaged : IfOk result (λ found. IfSome found (λ reply. is_damage reply ≡ true → Damage reply))
+  pub busy : IfOk result (λ found. IfSome found (λ reply. code_of reply ≡ 14 → Busy reply))
   pub failed : IfOk result (λ found. IfSome found (λ reply. code_of reply ≡ 15 → Rose arm_was arm))
   pub stops : IfOk result (λ found. new.stops ≡ old.stops + stops_of (code_in found))
   pub counts : IfOk result (CountsAt (met_with o whole old arm_was) (met_with o whole new arm))
@@ -310,22 +332,23 @@ pub record MergesAt (given : Premise → Type 0) (o : AtOpening) (whole : ℕ) (
   pub parts : new.parts ≡ old.parts
 
 -- of which damage the reply to a statement may tell (docs/replies.md, "Faults")
-abbrev pub TellsAt : {F : Type 0} → (F → Option Files) → (Premise → Type 0) → History → AtOpening → History → Item → List ℕ → Type 0
-TellsAt files_of given before o list (Ok (statement.Create c)) reply = ⊥
-TellsAt files_of given before o list (Ok (statement.Insert i)) reply = ⊥
-TellsAt files_of given before o list (Ok (statement.Select s)) reply = TellsOfPinned files_of given before o list s reply
-TellsAt files_of given before o list (Ok (statement.Explain s)) reply = ⊥
-TellsAt files_of given before o list (Ok (statement.Optimize p)) reply = TellsOfHanded files_of given before o (IsNamed p) reply
-TellsAt files_of given before o list (Err why) reply = ⊥
+abbrev pub TellsAt : {F : Type 0} → (F → Option Files) → (Premise → Type 0) → History → AtOpening → ℕ → History → Item → List ℕ → Type 0
+TellsAt files_of given before o whole list (Ok (statement.Create c)) reply = ⊥
+TellsAt files_of given before o whole list (Ok (statement.Insert i)) reply = ⊥
+TellsAt files_of given before o whole list (Ok (statement.Select s)) reply = TellsOfPinned files_of given before o list s reply
+TellsAt files_of given before o whole list (Ok (statement.Explain s)) reply = ⊥
+TellsAt files_of given before o whole list (Ok (statement.Optimize p)) reply = TellsOfHanded files_of given before o whole (IsNamed p) reply
+TellsAt files_of given before o whole list (Err why) reply = ⊥
 
--- What a reply shows beside, unless it is a refusal. A SELECT without FINAL has the rows of the parts as they are, so far as the premises held as the root was opened; an EXPLAIN counts the parts and
--- granules that there are; and an OPTIMIZE has merged what it was asked to (docs/definitions-of-runs.md, "Statements taken").
+-- What a reply shows beside. A SELECT without FINAL has the rows of the parts as they are, so far as the premises held as the root was opened; an EXPLAIN counts the parts and granules that there are;
+-- and an OPTIMIZE has merged what it was asked to. All this is so unless the reply is a refusal. An E14 names the part that a turn found to be merged (docs/definitions-of-runs.md, "Statements taken").
 abbrev pub ShowsAt : {F : Type 0} → (F → Option Files) → (Premise → Type 0) → History → AtOpening → ℕ → History → Item → List ℕ → Type 0
 ShowsAt files_of given before o whole list (Ok (statement.Create c)) reply = Unit {0}
 ShowsAt files_of given before o whole list (Ok (statement.Insert i)) reply = Unit {0}
 ShowsAt files_of given before o whole list (Ok (statement.Select s)) reply = given is_told → given is_listed → ReadsAsIs files_of (before ++ list) s reply
 ShowsAt files_of given before o whole list (Ok (statement.Explain s)) reply = CountsPinned files_of given before o list s reply
-ShowsAt files_of given before o whole list (Ok (statement.Optimize p)) reply = IsRefusal reply ⊎ MergesAsAsked files_of given before o whole p
+ShowsAt files_of given before o whole list (Ok (statement.Optimize p)) reply =
+    (code_of reply ≡ 14 → TellsOfBusy files_of given before o whole (IsNamed p) reply) × (IsRefusal reply ⊎ MergesAsAsked files_of given before o whole p)
 ShowsAt files_of given before o whole list (Err why) reply = Unit {0}
 
 -- The reply of a statement says that the commit of a command failed, so that the root may have its name or not. An OPTIMIZE has no command: where

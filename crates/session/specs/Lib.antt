@@ -10,4 +10,4 @@ pub use Rattle.replies.specs.mt_model
 pub use Rattle.final_fold.specs.part_history
 pub use Rattle.replies.specs as replies
 pub use Rattle.replies.specs.run_streams
-pub use Rattle.shared_store.specs as shared_store
+pub use Rattle.merge_workers.specs.shared_store

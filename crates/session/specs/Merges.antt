@@ -10,13 +10,13 @@ use Rattle.mt_outside.specs.Files.{Files}
 use Rattle.replies.specs.mt_model.declared.refusal.Refusal.{Refusal}
 use Rattle.replies.specs.mt_model.declared.refusal.Refusal.TheVariants as refusal
 use Rattle.replies.specs.mt_model.Refusals.{refusal_line}
-use Rattle.shared_store.specs.part_name.declared.part.PartName.{PartName}
-use Rattle.shared_store.specs.part_name.PartNames.{part_text}
-use Rattle.shared_store.specs.part_reader.declared.reading.Part.{Part}
-use Rattle.shared_store.specs.part_reader.declared.reading.PartFault.{PartFault}
-use Rattle.shared_store.specs.part_reader.declared.reading.PartFault.TheVariants as fault
-use Rattle.shared_store.specs.part_set.declared.kept.Kept.{Kept}
-use Rattle.shared_store.specs.part_set.Parts.{partition_rank}
+use Rattle.merge_workers.specs.shared_store.part_name.declared.part.PartName.{PartName}
+use Rattle.merge_workers.specs.shared_store.part_name.PartNames.{part_text}
+use Rattle.merge_workers.specs.shared_store.part_reader.declared.reading.Part.{Part}
+use Rattle.merge_workers.specs.shared_store.part_reader.declared.reading.PartFault.{PartFault}
+use Rattle.merge_workers.specs.shared_store.part_reader.declared.reading.PartFault.TheVariants as fault
+use Rattle.merge_workers.specs.shared_store.part_set.declared.kept.Kept.{Kept}
+use Rattle.merge_workers.specs.shared_store.part_set.Parts.{partition_rank}
 use Rattle.final_fold.specs.row_merge.MergedParts.{ExplainsPart}
 
 -- ---- the partitions of a table

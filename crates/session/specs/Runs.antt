@@ -1,19 +1,52 @@
 -- What statements of a session come to, one after another, by what its seat, its share and its arm know (docs/definitions-of-runs.md, "Runs").
-use Rattle.std.specs.Prelude.{◌≡◌, ◌⊎◌, ◌+◌, ◌<◌, ℕ, Bool, true, false, List, [], ◌∷◌, ◌++◌, length, take, Some}
+use Rattle.std.specs.Prelude.{◌≡◌, ◌⊎◌, ◌+◌, ◌<◌, ℕ, Bool, true, false, List, [], ◌∷◌, ◌++◌, length, take, Option, Some, Result, Ok, Err, IfOk}
 use Rattle.std.specs.List.{list_any}
+use Rattle.mt_base.specs.declared.memory.NoMemory.{NoMemory}
 use Rattle.mt_values.specs.declared.command.Command.{Command}
 use Rattle.mt_values.specs.declared.command.Entry.{Entry}
 use Rattle.mt_values.specs.Script.{Item}
+use Rattle.mt_outside.specs.Files.{Files}
 use Rattle.replies.specs.mt_model.History.{History}
 use Rattle.replies.specs.mt_model.Outside.{Outside}
 use Rattle.replies.specs.mt_model.Refusals.{code_of, is_damage}
 use Rattle.replies.specs.mt_model.Session.{IsNextCommand, SessionReplies, Unanswered}
 use Rattle.replies.specs.Foreseen.{AgreesWith, is_unsettled}
-use Rattle.shared_store.specs.durable_commit.Commits.{entry_of}
-use Rattle.shared_store.specs.history_seat.Views.{Begins, own}
-use Rattle.shared_store.specs.Sharing.{AtOpening}
-use Rattle.shared_store.specs.Stood.{Premise, is_held, is_listed, is_told}
-use Rattle.session.specs.Answers.{Having, StaysSession, TriesNone, met_by, place_of, stops_of}
+use Rattle.merge_workers.specs.shared_store.durable_commit.Commits.{entry_of}
+use Rattle.merge_workers.specs.shared_store.history_seat.Views.{Begins, own}
+use Rattle.merge_workers.specs.shared_store.Sharing.{AtOpening}
+use Rattle.merge_workers.specs.shared_store.Stood.{Premise, is_held, is_listed, is_told}
+use Rattle.session.specs.Answers.{AccountsAt, AnswersAt, Having, ShowsAt, StaysSession, StaysStopped, TellsAt, TriesAt, TriesNone, met_by, place_of, stops_of}
+
+-- What one statement comes to: its reply, or none, what accounts for that and what it shows; and what the session has then (docs/definitions-of-runs.md, "Statements taken").
+pub record RanOne {F : Type 0} (files_of : F → Option Files) (given : Premise → Type 0) (before : History) (o : AtOpening) (whole : ℕ) (statement : Item) (old new : Having) (result : Result (List ℕ) NoMemory) : Type 0 where
+  pub answers : AnswersAt given before o whole statement old new result
+  pub accounts : AccountsAt o whole old new (TellsAt files_of given before o whole new.seat.list statement) result
+  pub shows : IfOk result (ShowsAt files_of given before o whole new.seat.list statement)
+  pub stays : StaysSession o whole old new
+  pub stopped : StaysStopped old new result
+  pub tries : TriesAt given before statement old new result
+
+-- Statements ran one after another, each with its reply.
+abbrev pub RanEach : {F : Type 0} → (F → Option Files) → (Premise → Type 0) → History → AtOpening → ℕ → List Item → List (List ℕ) → Having → Having → Type 0
+RanEach files_of given before o whole [] [] old new = new ≡ old
+RanEach files_of given before o whole [] (reply ∷ replies) old new = ⊥
+RanEach files_of given before o whole (statement ∷ statements) [] old new = ⊥
+RanEach files_of given before o whole (statement ∷ statements) (reply ∷ replies) old new =
+    (mid : Having) × RanOne files_of given before o whole statement old mid (Ok reply) × RanEach files_of given before o whole statements replies mid new
+
+-- the same, and then one more ran, in which memory ran out
+abbrev pub RanOut : {F : Type 0} → (F → Option Files) → (Premise → Type 0) → History → AtOpening → ℕ → List Item → Item → List (List ℕ) → Having → Having → Type 0
+RanOut files_of given before o whole statements last replies old new =
+    (mid : Having) × RanEach files_of given before o whole statements replies old mid × ((why : NoMemory) × RanOne files_of given before o whole last mid new (Err why))
+
+-- What a session's statements come to: each has its reply; or memory ran out, before the first or in one of them, and the rest did not run.
+abbrev pub RunsSession : {F : Type 0} → (F → Option Files) → (Premise → Type 0) → History → AtOpening → ℕ → List Item → List (List ℕ) → Bool → Having → Having → Type 0
+RunsSession files_of given before o whole statements replies false old new = RanEach files_of given before o whole statements replies old new
+RunsSession files_of given before o whole statements replies true old new =
+    ((replies ≡ []) × (new ≡ old))
+    ⊎ ((ran rest : List Item) × (last : Item) × (statements ≡ ran ++ last ∷ rest) × RanOut files_of given before o whole ran last replies old new)
+
+-- ---- what follows for all of them together
 
 -- how many stops replies tell of
 abbrev pub stops_told : List (List ℕ) → ℕ
@@ -58,7 +91,7 @@ abbrev pub TriedLast : (Premise → Type 0) → History → AtOpening → ℕ �
 TriedLast given before o whole statements replies old new =
     TriesNone old new ⊎ ((e : Entry) × (new.seat.tried ≡ Some e) × IsTried given before o whole statements replies old new e)
 
--- Statements ran one after another, each with a reply. The share has counted the stops that they tell of. After a reply which says that a commit failed, nothing is
+-- What follows where statements ran one after another, each with a reply. The share has counted the stops that they tell of. After a reply which says that a commit failed, nothing is
 -- accepted, and no later reply says it. What was tried last is what was before, or the next command of one of them. None tells of damage where each part held rows as the root was opened.
 pub record HasRun (given : Premise → Type 0) (before : History) (o : AtOpening) (whole : ℕ) (statements : List Item) (replies : List (List ℕ)) (old new : Having) : Type 0 where
   pub each : RanTo given before o whole statements replies old new (place_of before new.seat)
@@ -70,17 +103,10 @@ pub record HasRun (given : Premise → Type 0) (before : History) (o : AtOpening
   pub tried : TriedLast given before o whole statements replies old new
   pub sound : given is_told → given is_held → list_any is_damage replies ≡ false
 
--- A statement after them had no reply: from a place on, where the session stood, the first of its commands were accepted, or none.
+-- What follows where a statement after them had no reply: from a place on, where the session stood, the first of its commands were accepted, or none.
 abbrev pub EndsRun : (Premise → Type 0) → History → AtOpening → ℕ → List Item → Item → List (List ℕ) → Having → Having → Type 0
 EndsRun given before o whole statements last replies old new =
     (mid : Having) × HasRun given before o whole statements replies old mid × StaysSession o whole mid new
     × (0 < mid.share.stops → new.seat.mine ≡ mid.seat.mine)
     × TriedLast given before o whole (statements ++ last ∷ []) replies old new
     × (given is_told → given is_listed → Unanswered (before ++ new.seat.list) old.seat.number last (place_of before mid.seat) (place_of before new.seat))
-
--- What a session's statements come to: each has its reply; or memory ran out, in one of them or after its reply, and the rest did not run.
-abbrev pub RunsSession : (Premise → Type 0) → History → AtOpening → ℕ → List Item → List (List ℕ) → Bool → Having → Having → Type 0
-RunsSession given before o whole statements replies false old new = HasRun given before o whole statements replies old new
-RunsSession given before o whole statements replies true old new =
-    ((ran rest : List Item) × (statements ≡ ran ++ rest) × HasRun given before o whole ran replies old new)
-    ⊎ ((ran rest : List Item) × (last : Item) × (statements ≡ ran ++ last ∷ rest) × EndsRun given before o whole ran last replies old new)

@@ -22,16 +22,16 @@ use Rattle.replies.specs.mt_model.Queries.{query_of}
 use Rattle.replies.specs.mt_model.Refusals.{refusal_line}
 use Rattle.replies.specs.mt_model.Reply.{rows_line}
 use Rattle.replies.specs.Foreseen.{Selected}
-use Rattle.shared_store.specs.part_name.declared.part.PartName.{PartName}
-use Rattle.shared_store.specs.part_name.PartNames.{part_text}
-use Rattle.shared_store.specs.part_reader.declared.reading.Part.{Part}
-use Rattle.shared_store.specs.part_reader.declared.reading.PartFault.{PartFault}
-use Rattle.shared_store.specs.part_reader.declared.reading.PartFault.TheVariants as fault
-use Rattle.shared_store.specs.part_set.declared.kept.Kept.{Kept}
-use Rattle.shared_store.specs.part_set.declared.kept.Snap.{Snap}
-use Rattle.shared_store.specs.root_store.declared.store.CoreStore.{CoreStore}
-use Rattle.shared_store.specs.root_store.Stores.{CoreStands}
-use Rattle.shared_store.specs.Engines.{IsSnapOf}
+use Rattle.merge_workers.specs.shared_store.part_name.declared.part.PartName.{PartName}
+use Rattle.merge_workers.specs.shared_store.part_name.PartNames.{part_text}
+use Rattle.merge_workers.specs.shared_store.part_reader.declared.reading.Part.{Part}
+use Rattle.merge_workers.specs.shared_store.part_reader.declared.reading.PartFault.{PartFault}
+use Rattle.merge_workers.specs.shared_store.part_reader.declared.reading.PartFault.TheVariants as fault
+use Rattle.merge_workers.specs.shared_store.part_set.declared.kept.Kept.{Kept}
+use Rattle.merge_workers.specs.shared_store.part_set.declared.kept.Snap.{Snap}
+use Rattle.merge_workers.specs.shared_store.root_store.declared.store.CoreStore.{CoreStore}
+use Rattle.merge_workers.specs.shared_store.root_store.Stores.{CoreStands}
+use Rattle.merge_workers.specs.shared_store.Engines.{IsSnapOf}
 use Rattle.final_fold.specs.declared.asking.Wanted.{Wanted}
 use Rattle.final_fold.specs.Asked.{IsWanted}
 use Rattle.final_fold.specs.Folded.{ExplainsFold}

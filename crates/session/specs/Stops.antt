@@ -5,9 +5,9 @@ use Rattle.replies.specs.mt_model.declared.refusal.Refusal.{Refusal}
 use Rattle.replies.specs.mt_model.declared.refusal.Refusal.TheVariants as refusal
 use Rattle.replies.specs.mt_model.declared.refusal.Room.TheVariants as room
 use Rattle.replies.specs.mt_model.Refusals.{refusal_line}
-use Rattle.shared_store.specs.durable_commit.declared.causes.Limit.TheVariants as limit
-use Rattle.shared_store.specs.durable_commit.declared.causes.Refused.{Refused}
-use Rattle.shared_store.specs.durable_commit.declared.causes.Refused.TheVariants as refused
+use Rattle.merge_workers.specs.shared_store.durable_commit.declared.causes.Limit.TheVariants as limit
+use Rattle.merge_workers.specs.shared_store.durable_commit.declared.causes.Refused.{Refused}
+use Rattle.merge_workers.specs.shared_store.durable_commit.declared.causes.Refused.TheVariants as refused
 
 -- what a command on a table, or a merge of its parts, is refused for where it was not committed, after some of its statement's commands were
 -- accepted; nothing for want of memory

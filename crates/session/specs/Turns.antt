@@ -4,7 +4,7 @@ use Rattle.mt_base.specs.declared.memory.NoMemory.{NoMemory}
 use Rattle.mt_values.specs.declared.command.Command.{Command}
 use Rattle.mt_values.specs.declared.schema.Schema.{Schema}
 use Rattle.replies.specs.mt_model.History.{IsInsertInto}
-use Rattle.shared_store.specs.root_commits.Commits.{IsSealedOf, insert_into, insert_of_block, partition_of_block}
+use Rattle.merge_workers.specs.shared_store.root_commits.Commits.{IsSealedOf, insert_into, insert_of_block, partition_of_block}
 use Rattle.session.specs.declared.sealing.SealedBlock.{SealedBlock}
 use Rattle.session.specs.declared.turns.TurnReply.{TurnReply}
 use Rattle.session.specs.declared.turns.TurnReply.TheVariants.{Accepted, Refused}

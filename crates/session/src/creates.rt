@@ -2,22 +2,22 @@
 ghost use Rattle.std.specs.Prelude.{◌≡◌, ◌<◌, Ok, true};
 ghost use Rattle.mt_values.specs.declared.statement.Statement.TheVariants as statement;
 ghost use Rattle.replies.specs.mt_model.Written.{IsCreateText};
-ghost use Rattle.shared_store.specs.history_seat.Turns.{IsSession};
-ghost use Rattle.shared_store.specs.Stood.{is_told};
+ghost use Rattle.merge_workers.specs.shared_store.history_seat.Turns.{IsSession};
+ghost use Rattle.merge_workers.specs.shared_store.Stood.{is_told};
 ghost use Rattle.session.specs.Lapses.{Never};
 ghost use Rattle.session.specs.Answers.{AccountsAt, AnswersAt, KnowsOwn, StaysSession, StaysStopped, TriesAt, having};
 
 use crate::staging::seal_entry;
 use crate::stopped::refused_line;
 use merge_workers::give_back;
+use merge_workers::shared_store::history_seat::Seat;
+use merge_workers::shared_store::root_commits::Returned;
+use merge_workers::shared_store::{Names, Share, Shared};
 use mt_base::{NoMemory, Stop, Twin};
 use mt_outside::{Arm, Dir, Disk};
 use mt_values::{Annals, Create, CreateText};
 use replies::mt_model::resolve;
 use replies::{Reply, replies_after, stage_line};
-use shared_store::history_seat::Seat;
-use shared_store::root_commits::Returned;
-use shared_store::{Names, Share, Shared};
 use std::alloc::Global;
 use std::sync::Wait;
 

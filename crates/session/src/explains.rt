@@ -2,26 +2,26 @@
 ghost use Rattle.std.specs.Prelude.{◌++◌, ◌⊎◌, IfOk, ℕ};
 ghost use Rattle.replies.specs.mt_model.History.{History, IsTableSchema};
 ghost use Rattle.replies.specs.Foreseen.{Explained};
-ghost use Rattle.shared_store.specs.root_store.declared.store.CoreStore.{CoreStore};
-ghost use Rattle.shared_store.specs.root_store.Stores.{CoreStands};
-ghost use Rattle.shared_store.specs.Engines.{IsSnapOf};
-ghost use Rattle.shared_store.specs.history_seat.Turns.{IsSession, Looked};
-ghost use Rattle.shared_store.specs.Stood.{is_listed, is_told};
+ghost use Rattle.merge_workers.specs.shared_store.root_store.declared.store.CoreStore.{CoreStore};
+ghost use Rattle.merge_workers.specs.shared_store.root_store.Stores.{CoreStands};
+ghost use Rattle.merge_workers.specs.shared_store.Engines.{IsSnapOf};
+ghost use Rattle.merge_workers.specs.shared_store.history_seat.Turns.{IsSession, Looked};
+ghost use Rattle.merge_workers.specs.shared_store.Stood.{is_listed, is_told};
 ghost use Rattle.session.specs.Lapses.{Accounts, Never, still};
 ghost use Rattle.session.specs.Merges.{IsRefusal};
 ghost use Rattle.session.specs.Selects.{CountsPlan};
 ghost use Rattle.session.specs.Answers.{CountsPinned, ExplainsAt, KnowsOwn, place_of};
 
 use final_fold::select_plan::plan;
+use merge_workers::shared_store::history_seat::Seat;
+use merge_workers::shared_store::part_reader::Part;
+use merge_workers::shared_store::part_set::Snap;
+use merge_workers::shared_store::{Names, Shared};
 use mt_base::{NoMemory, Stop};
 use mt_outside::{Arm, Dir, Disk};
 use mt_values::{Annals, SelectText};
 use replies::mt_model::query_of;
 use replies::{Reply, explained, no_table_line};
-use shared_store::history_seat::Seat;
-use shared_store::part_reader::Part;
-use shared_store::part_set::Snap;
-use shared_store::{Names, Shared};
 use std::alloc::Global;
 use std::sync::Wait;
 

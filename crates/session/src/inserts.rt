@@ -1,8 +1,8 @@
 // Running an INSERT of a session.
 ghost use Rattle.std.specs.Prelude.{◌≡◌, ◌<◌, Ok, true};
 ghost use Rattle.mt_values.specs.declared.statement.Statement.TheVariants as statement;
-ghost use Rattle.shared_store.specs.history_seat.Turns.{IsSession};
-ghost use Rattle.shared_store.specs.Stood.{is_told};
+ghost use Rattle.merge_workers.specs.shared_store.history_seat.Turns.{IsSession};
+ghost use Rattle.merge_workers.specs.shared_store.Stood.{is_told};
 ghost use Rattle.session.specs.Lapses.{Never};
 ghost use Rattle.session.specs.Answers.{AccountsAt, AnswersAt, KnowsOwn, StaysSession, StaysStopped, TriesAt, having};
 
@@ -10,12 +10,12 @@ use crate::read_block;
 use crate::sealing::seal_blocks;
 use crate::turns::commit_parts;
 use block_split::split_block;
+use merge_workers::shared_store::history_seat::Seat;
+use merge_workers::shared_store::{Names, Share, Shared};
 use mt_base::{NoMemory, Stop};
 use mt_outside::{Arm, Dir, Disk};
 use mt_values::{Annals, InsertText};
 use replies::{Reply, data_line, failed_line, no_table_line, stage_line};
-use shared_store::history_seat::Seat;
-use shared_store::{Names, Share, Shared};
 use std::alloc::Global;
 use std::sync::Wait;
 

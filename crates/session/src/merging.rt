@@ -2,21 +2,22 @@
 ghost use Rattle.std.specs.Prelude.{◌+◌, ◌<◌, ◌≡◌, IfErr, IfOk, Ok, true};
 ghost use Rattle.replies.specs.mt_model.declared.refusal.Refusal.TheVariants as refusal;
 ghost use Rattle.replies.specs.mt_model.Refusals.{refusal_line};
-ghost use Rattle.shared_store.specs.Levels.{any_greatest};
-ghost use Rattle.shared_store.specs.Stood.{is_told};
-ghost use Rattle.session.specs.Merges.{IsUnreadLine};
-ghost use Rattle.session.specs.Answers.{IsThat, MergesAt, TellsOfHanded, WasPut};
+ghost use Rattle.merge_workers.specs.shared_store.Levels.{any_greatest};
+ghost use Rattle.merge_workers.specs.shared_store.Stood.{is_told};
+ghost use Rattle.session.specs.Lapses.{Never};
+ghost use Rattle.session.specs.Merges.{IsUnreadLine, TellsOfPart};
+ghost use Rattle.session.specs.Answers.{MergesAt, WasCarriedOut};
 
 use crate::stopped::refused_line;
+use merge_workers::shared_store::handed::Work;
+use merge_workers::shared_store::part_name::PartName;
+use merge_workers::shared_store::part_reader::PartFault;
+use merge_workers::shared_store::{Names, Share, Shared};
 use merge_workers::{Carried, carry_out};
 use mt_base::NoMemory;
 use mt_outside::{Arm, Dir, Disk};
 use mt_values::{Annals, Name};
 use replies::{MergeReplies, Reply, damaged};
-use shared_store::handed::Work;
-use shared_store::part_name::PartName;
-use shared_store::part_reader::PartFault;
-use shared_store::{Names, Share, Shared};
 use std::alloc::Global;
 use std::sync::Wait;
 
@@ -65,9 +66,8 @@ pub(crate) fn merge_work<W: Wait, F: Dir, R: Arm<Dir = F>, D: Disk<Arm = R>, A: 
     requires unsettled { replies.unsettled ≡ refusal_line (refusal.Unsettled 0) }
     ensures merges { MergesAt B.given B.opening B.ledgers.parts share.old share.new
         (R.failed arm.old) (R.failed arm.new) (any_greatest work.taken.sources.items)
-        (TellsOfHanded F.files B.given B.before B.opening
-        (IsThat work.taken.table work.taken.partition))
-        (WasPut F.files B.given B.before B.opening B.ledgers.parts work.taken) result }
+        (TellsOfPart F.files work.taken.table work.taken.schema work.taken.sources.items) Never
+        (WasCarriedOut F.files B.given B.before B.opening B.ledgers.parts work.taken) result }
     ensures out { share.new.out + 1 ≡ share.old.out }
     ensures tells { R.tells arm.new ≡ R.tells arm.old }
 {

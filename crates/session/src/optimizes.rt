@@ -3,25 +3,26 @@
 ghost use Rattle.std.specs.Prelude.{◌<◌, ◌⊎◌, ◌≡◌, All, IfOk, IfSome, List, Ok, false, is_some, true, ℕ};
 ghost use Rattle.mt_base.specs.declared.partition.Partition.{Partition};
 ghost use Rattle.mt_values.specs.declared.statement.Statement.TheVariants as statement;
-ghost use Rattle.shared_store.specs.history_seat.Turns.{IsSession, Looked};
-ghost use Rattle.shared_store.specs.Stood.{is_told};
-ghost use Rattle.shared_store.specs.mutation_queue.Scopes.{InScope};
-ghost use Rattle.shared_store.specs.Works.{HasPair};
-ghost use Rattle.shared_store.specs.part_set.Parts.{IsInBlockOrder};
-ghost use Rattle.session.specs.Answers.{AccountsAt, AnswersAt, FoundNoPair, IsFinalAt, IsNamed, IsOf, IsThat, IsThere, KnowsOwn, ListsAsAsked, MergesAsAsked, MergesAt, StaysSession, StaysStopped, TellsOfHanded, TriesAt, WasMerged, WereIn, having};
-ghost use Rattle.session.specs.Merges.{ArePartitionsOf, IsRefusal};
+ghost use Rattle.merge_workers.specs.shared_store.history_seat.Turns.{IsSession, Looked};
+ghost use Rattle.merge_workers.specs.shared_store.Stood.{is_told};
+ghost use Rattle.merge_workers.specs.shared_store.mutation_queue.Scopes.{InScope};
+ghost use Rattle.merge_workers.specs.shared_store.Works.{HasPair};
+ghost use Rattle.merge_workers.specs.shared_store.part_set.Parts.{IsInBlockOrder};
+ghost use Rattle.session.specs.Answers.{AccountsAt, AnswersAt, FoundNoPair, IsFinalAt, IsNamed, IsOf, IsThat, IsThere, KnowsOwn, ListsAsAsked, MergesAsAsked, MergesAt, ShowsAt, StaysSession, StaysStopped, TellsOfBusy, TellsOfHanded, TriesAt, WasMerged, WereIn, having};
+ghost use Rattle.session.specs.Lapses.{Never};
+ghost use Rattle.session.specs.Merges.{ArePartitionsOf};
 
 use crate::merging::merge_work;
+use merge_workers::shared_store::history_seat::Seat;
+use merge_workers::shared_store::merge_select::Scope;
+use merge_workers::shared_store::part_name::parse_partition;
+use merge_workers::shared_store::part_reader::Part;
+use merge_workers::shared_store::part_set::Kept;
+use merge_workers::shared_store::{Names, Share, Shared, TakeFault};
 use mt_base::{NoMemory, Partition};
 use mt_outside::{Arm, Dir, Disk};
 use mt_values::{Annals, Name, OptimizeText};
 use replies::{Reply, busy_line, merge_replies, no_table_line};
-use shared_store::history_seat::Seat;
-use shared_store::merge_select::Scope;
-use shared_store::part_name::parse_partition;
-use shared_store::part_reader::Part;
-use shared_store::part_set::Kept;
-use shared_store::{Names, Share, Shared, TakeFault};
 use std::alloc::Global;
 use std::sync::Wait;
 
@@ -116,7 +117,8 @@ fn merge_pair<W: Wait, F: Dir, R: Arm<Dir = F>, D: Disk<Arm = R>, A: Annals, B: 
     requires scope { (t : List ℕ) (p : Partition) → InScope scope t p → t ≡ table.now }
     ensures merges { MergesAt B.given B.opening B.ledgers.parts share.old share.new
         (R.failed arm.old) (R.failed arm.new) false
-        (TellsOfHanded F.files B.given B.before B.opening (InScope scope.entry))
+        (TellsOfHanded F.files B.given B.before B.opening B.ledgers.parts (InScope scope.entry))
+        Never
         (WasMerged F.files B.given B.before B.opening B.ledgers.parts (InScope scope.entry)
         (HasPair B.opening.policy scope.entry)
         ⊎ FoundNoPair F.files B.given B.before B.opening B.ledgers.parts (InScope scope.entry))
@@ -128,7 +130,11 @@ fn merge_pair<W: Wait, F: Dir, R: Arm<Dir = F>, D: Disk<Arm = R>, A: Annals, B: 
         return Err(NoMemory);
     };
     match shared.take_merge(rt, alloc, share, scope) {
-        Ok(Some(work)) => merge_work(rt, alloc, shared, share, arm, table, work, replies),
+        Ok(Some(work)) => {
+            // Reading what was taken up shows what is known of it.
+            prove!(!work.taken().sources.is_empty());
+            merge_work(rt, alloc, shared, share, arm, table, work, replies)
+        }
         Ok(None) => Ok(None),
         Err(NoMemory) => Err(NoMemory),
     }
@@ -151,7 +157,10 @@ fn merge_partition<W: Wait, F: Dir, R: Arm<Dir = F>, D: Disk<Arm = R>, A: Annals
     requires tells { B.given is_told → R.tells arm.old ≡ true }
     ensures merges { MergesAt B.given B.opening B.ledgers.parts share.old share.new
         (R.failed arm.old) (R.failed arm.new) true
-        (TellsOfHanded F.files B.given B.before B.opening (IsThat table.now partition))
+        (TellsOfHanded F.files B.given B.before B.opening B.ledgers.parts
+        (IsThat table.now partition))
+        (TellsOfBusy F.files B.given B.before B.opening B.ledgers.parts
+        (IsThat table.now partition))
         (IsFinalAt F.files B.given B.before B.opening B.ledgers.parts table.now partition)
         result }
     ensures out { share.new.out ≡ share.old.out }
@@ -161,7 +170,11 @@ fn merge_partition<W: Wait, F: Dir, R: Arm<Dir = F>, D: Disk<Arm = R>, A: Annals
         return Err(NoMemory);
     };
     match shared.take_all(rt, alloc, share, table, partition) {
-        Ok(Some(work)) => merge_work(rt, alloc, shared, share, arm, table, work, replies),
+        Ok(Some(work)) => {
+            // Reading what was taken up shows what is known of it.
+            prove!(!work.taken().sources.is_empty());
+            merge_work(rt, alloc, shared, share, arm, table, work, replies)
+        }
         Ok(None) => Ok(None),
         Err(TakeFault::NoMemory) => Err(NoMemory),
         Err(TakeFault::Busy(part)) => {
@@ -189,7 +202,8 @@ fn merge_partitions<W: Wait, F: Dir, R: Arm<Dir = F>, D: Disk<Arm = R>, A: Annal
     requires tells { B.given is_told → R.tells arm.old ≡ true }
     ensures merges { MergesAt B.given B.opening B.ledgers.parts share.old share.new
         (R.failed arm.old) (R.failed arm.new) true
-        (TellsOfHanded F.files B.given B.before B.opening (IsOf table.now))
+        (TellsOfHanded F.files B.given B.before B.opening B.ledgers.parts (IsOf table.now))
+        (TellsOfBusy F.files B.given B.before B.opening B.ledgers.parts (IsOf table.now))
         (All (IsFinalAt F.files B.given B.before B.opening B.ledgers.parts table.now)
         partitions.now) result }
     ensures out { share.new.out ≡ share.old.out }
@@ -224,7 +238,8 @@ fn merge_as_asked<W: Wait, F: Dir, R: Arm<Dir = F>, D: Disk<Arm = R>, A: Annals,
     requires listed { ListsAsAsked F.files B.given B.before B.opening text.now partitions.now }
     ensures merges { MergesAt B.given B.opening B.ledgers.parts share.old share.new
         (R.failed arm.old) (R.failed arm.new) text.now.whole
-        (TellsOfHanded F.files B.given B.before B.opening (IsNamed text.now))
+        (TellsOfHanded F.files B.given B.before B.opening B.ledgers.parts (IsNamed text.now))
+        (TellsOfBusy F.files B.given B.before B.opening B.ledgers.parts (IsNamed text.now))
         (MergesAsAsked F.files B.given B.before B.opening B.ledgers.parts text.now) result }
     ensures out { share.new.out ≡ share.old.out }
     ensures tells { R.tells arm.new ≡ R.tells arm.old }
@@ -273,12 +288,13 @@ pub fn optimize<W: Wait, F: Dir, R: Arm<Dir = F>, D: Disk<Arm = R>, A: Annals, B
     ensures answers { AnswersAt B.given B.before B.opening B.ledgers.parts
         (Ok (statement.Optimize text.now)) (having seat.old share.old (R.failed arm.old))
         (having seat.new share.new (R.failed arm.new)) result }
-    ensures shows { IfOk result (λ reply. IsRefusal reply
-        ⊎ MergesAsAsked F.files B.given B.before B.opening B.ledgers.parts text.now) }
+    ensures shows { IfOk result (ShowsAt F.files B.given B.before B.opening B.ledgers.parts
+        seat.new.list (Ok (statement.Optimize text.now))) }
     ensures accounts { AccountsAt B.opening B.ledgers.parts
         (having seat.old share.old (R.failed arm.old))
         (having seat.new share.new (R.failed arm.new))
-        (TellsOfHanded F.files B.given B.before B.opening (IsNamed text.now)) result }
+        (TellsOfHanded F.files B.given B.before B.opening B.ledgers.parts (IsNamed text.now))
+        result }
 
     // What the session has then.
     ensures stays { StaysSession B.opening B.ledgers.parts

@@ -5,14 +5,14 @@
 ghost use Rattle.std.specs.Prelude.{◌≡◌, ◌<◌, ◌≤◌, true, All, IfOk, map};
 ghost use Rattle.mt_outside.specs.DiskCauses.{HasDiskCause};
 ghost use Rattle.replies.specs.mt_model.History.{IsTableSchema, column_types};
-ghost use Rattle.shared_store.specs.root_commits.Commits.{IsSealedOf};
+ghost use Rattle.merge_workers.specs.shared_store.root_commits.Commits.{IsSealedOf};
 ghost use Rattle.session.specs.Turns.{IsPartFor, NoneFailed, in_turn};
 
 use block_split::PartitionBlock;
 use merge_workers::give_back_part;
+use merge_workers::shared_store::part_writer::{SealedPart, write_part};
 use mt_outside::{Arm, DiskError, Stage};
 use mt_values::{Block, Schema};
-use shared_store::part_writer::{SealedPart, write_part};
 use std::alloc::Global;
 
 /// Rows of one partition, and the part that was sealed of them. It is never dropped, as its part is not.

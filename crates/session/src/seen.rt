@@ -6,15 +6,15 @@ ghost use Rattle.session.specs.Selects.{AddsSeen, IsPlanFor, IsWantedOf, SaysRea
 
 use final_fold::select_plan::Plan;
 use final_fold::{Wanted, add_matches, final_rows};
+use merge_workers::shared_store::part_name::PartName;
+use merge_workers::shared_store::part_reader::{Part, PartFault};
+use merge_workers::shared_store::part_set::Snap;
 use mt_outside::Arm;
 use mt_values::ColumnData;
-use shared_store::part_name::PartName;
-use shared_store::part_reader::{Part, PartFault};
-use shared_store::part_set::Snap;
 use std::alloc::Global;
 
-/// Adds what a SELECT sees of a pinned table's parts, and meets its condition, to columns: of each row the values at the wanted places.
-/// The granules that its plan chooses have each of these rows. Returns how many rows were added.
+/// Adds what a SELECT sees of a pinned table's parts, and meets its condition, to columns that are empty before: of each row the values
+/// at the wanted places. The granules that its plan chooses have each of these rows. Returns how many rows were added.
 ///
 /// The name of the part of which a column could not be read, and why: `Damaged` where its bytes in some chosen granules are damaged,
 /// never where the parts hold rows of the table; `Fault` only where the arm's count rose in this call; `NoMemory` where an allocation

@@ -3,11 +3,11 @@ ghost use Rattle.std.specs.Prelude.{◌++◌, ◌<◌, ◌^◌, ◌≡◌, IfOk,
 ghost use Rattle.replies.specs.mt_model.History.{History, IsTableSchema};
 ghost use Rattle.replies.specs.mt_model.Queries.{query_of};
 ghost use Rattle.final_fold.specs.Scans.{rows_kept};
-ghost use Rattle.shared_store.specs.root_store.declared.store.CoreStore.{CoreStore};
-ghost use Rattle.shared_store.specs.root_store.Stores.{CoreStands};
-ghost use Rattle.shared_store.specs.Engines.{IsSnapOf};
-ghost use Rattle.shared_store.specs.history_seat.Turns.{IsSession, Looked};
-ghost use Rattle.shared_store.specs.Stood.{is_listed, is_told};
+ghost use Rattle.merge_workers.specs.shared_store.root_store.declared.store.CoreStore.{CoreStore};
+ghost use Rattle.merge_workers.specs.shared_store.root_store.Stores.{CoreStands};
+ghost use Rattle.merge_workers.specs.shared_store.Engines.{IsSnapOf};
+ghost use Rattle.merge_workers.specs.shared_store.history_seat.Turns.{IsSession, Looked};
+ghost use Rattle.merge_workers.specs.shared_store.Stood.{is_listed, is_told};
 ghost use Rattle.session.specs.Lapses.{Accounts, still};
 ghost use Rattle.session.specs.Selects.{SelectsFrom, TellsOfDamage};
 ghost use Rattle.session.specs.Answers.{KnowsOwn, SelectsAt, TellsOfPinned, place_of};
@@ -15,15 +15,15 @@ ghost use Rattle.session.specs.Answers.{KnowsOwn, SelectsAt, TellsOfPinned, plac
 use crate::seen::add_seen;
 use final_fold::select_plan::plan;
 use final_fold::{Wanted, count_rows, pick_columns};
+use merge_workers::shared_store::history_seat::Seat;
+use merge_workers::shared_store::part_reader::{Part, PartFault, empty_columns};
+use merge_workers::shared_store::part_set::Snap;
+use merge_workers::shared_store::{Names, Shared};
 use mt_base::{NoMemory, Stop};
 use mt_outside::{Arm, Dir, Disk, DiskError, Gate, Point, Who};
 use mt_values::{Annals, SelectText};
 use replies::mt_model::{Query, query_of};
 use replies::{Reply, damaged, failed_line, no_table_line, print, stage_line};
-use shared_store::history_seat::Seat;
-use shared_store::part_reader::{Part, PartFault, empty_columns};
-use shared_store::part_set::Snap;
-use shared_store::{Names, Shared};
 use std::alloc::Global;
 use std::sync::Wait;
 

@@ -1,18 +1,18 @@
 // Running the statements of a session, one after another.
 ghost use Rattle.std.specs.Prelude.{◌≡◌, ◌<◌, true, All};
 ghost use Rattle.replies.specs.mt_model.Written.{IsWritten};
-ghost use Rattle.shared_store.specs.history_seat.Turns.{IsSession};
-ghost use Rattle.shared_store.specs.Stood.{is_told};
+ghost use Rattle.merge_workers.specs.shared_store.history_seat.Turns.{IsSession};
+ghost use Rattle.merge_workers.specs.shared_store.Stood.{is_told};
 ghost use Rattle.session.specs.Runs.{RunsSession};
 ghost use Rattle.session.specs.Answers.{KnowsOwn, having};
 
 use crate::statements::run_statement;
+use merge_workers::shared_store::history_seat::Seat;
+use merge_workers::shared_store::{Names, Share, Shared};
 use mt_base::NoMemory;
 use mt_outside::{Arm, Dir, Disk, Gate, Point, Who};
 use mt_values::{Annals, Cause, Statement};
 use replies::Reply;
-use shared_store::history_seat::Seat;
-use shared_store::{Names, Share, Shared};
 use std::alloc::Global;
 use std::sync::Wait;
 
@@ -52,7 +52,7 @@ pub fn run_session<
     requires tells { B.given is_told → R.tells arm.old ≡ true }
 
     // What they come to.
-    ensures runs { RunsSession B.given B.before B.opening B.ledgers.parts statements.items
+    ensures runs { RunsSession F.files B.given B.before B.opening B.ledgers.parts statements.items
         result.replies.items result.no_memory (having seat.old share.old (R.failed arm.old))
         (having seat.new share.new (R.failed arm.new)) }
     ensures tells { R.tells arm.new ≡ R.tells arm.old }

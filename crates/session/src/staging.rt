@@ -3,10 +3,10 @@ ghost use Rattle.std.specs.Prelude.{◌≡◌, ◌<◌, ◌^◌, Some, length, t
 ghost use Rattle.mt_outside.specs.DiskCauses.{HasDiskCause};
 ghost use Rattle.session.specs.Staged.{entry_files};
 
+use merge_workers::shared_store::digest_file::entry_bytes;
+use merge_workers::shared_store::stage_dir::{Open, Sealed, Unsealed, seal, write_file};
 use mt_outside::{Arm, DiskError};
 use mt_values::FileId;
-use shared_store::digest_file::entry_bytes;
-use shared_store::stage_dir::{Open, Sealed, Unsealed, seal, write_file};
 use std::alloc::Global;
 
 /// A sealed stage with the entry of a statement's text.

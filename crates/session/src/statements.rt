@@ -1,8 +1,8 @@
 // Running one statement of a session.
 ghost use Rattle.std.specs.Prelude.{◌≡◌, ◌<◌, true, IfOk};
 ghost use Rattle.replies.specs.mt_model.Written.{IsWritten};
-ghost use Rattle.shared_store.specs.history_seat.Turns.{IsSession};
-ghost use Rattle.shared_store.specs.Stood.{is_told};
+ghost use Rattle.merge_workers.specs.shared_store.history_seat.Turns.{IsSession};
+ghost use Rattle.merge_workers.specs.shared_store.Stood.{is_told};
 ghost use Rattle.session.specs.Answers.{AccountsAt, AnswersAt, KnowsOwn, ShowsAt, StaysSession, StaysStopped, TellsAt, TriesAt, having};
 
 use crate::creates::create;
@@ -10,13 +10,13 @@ use crate::explains::explain;
 use crate::inserts::insert;
 use crate::optimizes::optimize;
 use crate::selects::select;
+use merge_workers::shared_store::history_seat::Seat;
+use merge_workers::shared_store::{Names, Share, Shared};
 use mt_base::NoMemory;
 use mt_outside::{Arm, Dir, Disk, Gate};
 use mt_values::{Annals, Cause, Statement};
 use replies::Reply;
 use replies::mt_model::Refusal;
-use shared_store::history_seat::Seat;
-use shared_store::{Names, Share, Shared};
 use std::alloc::Global;
 use std::sync::Wait;
 
@@ -56,7 +56,8 @@ pub fn run_statement<
     ensures accounts { AccountsAt B.opening B.ledgers.parts
         (having seat.old share.old (R.failed arm.old))
         (having seat.new share.new (R.failed arm.new))
-        (TellsAt F.files B.given B.before B.opening seat.new.list statement) result }
+        (TellsAt F.files B.given B.before B.opening B.ledgers.parts seat.new.list statement)
+        result }
     ensures shows { IfOk result (ShowsAt F.files B.given B.before B.opening B.ledgers.parts
         seat.new.list statement) }
 

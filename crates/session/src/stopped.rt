@@ -4,11 +4,11 @@ ghost use Rattle.session.specs.Stops.{IsLineOf, refusal_of_commit};
 ghost use Rattle.replies.specs.mt_model.declared.refusal.Refusal.TheVariants as refusal;
 ghost use Rattle.replies.specs.mt_model.Refusals.{refusal_line};
 
+use merge_workers::shared_store::durable_commit::{Limit, Refused};
 use mt_base::{NoMemory, Twin};
 use mt_values::Name;
 use replies::Reply;
 use replies::mt_model::{Bound, Refusal, Room};
-use shared_store::durable_commit::{Limit, Refused};
 use std::alloc::Global;
 
 /// Why a command on a table was not committed after so many others of its statement were, as a refusal. None where memory ran out.

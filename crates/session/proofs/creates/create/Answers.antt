@@ -13,9 +13,9 @@ use Rattle.replies.proofs.Counting.{line_of_stage}
 use Rattle.replies.proofs.MtModelCauses.{text_is_cause, undamaged_line}
 use Rattle.replies.proofs.MtModelTables.{schema_is}
 use Rattle.replies.proofs.Undamaged.{line_of, stage_line}
-use Rattle.shared_store.specs.root_commits.Commits.{IsSealedEntry}
-use Rattle.shared_store.specs.stage_dir.Stages.{Filled}
-use Rattle.shared_store.specs.Tallies.{Tally}
+use Rattle.merge_workers.specs.shared_store.root_commits.Commits.{IsSealedEntry}
+use Rattle.merge_workers.specs.shared_store.stage_dir.Stages.{Filled}
+use Rattle.merge_workers.specs.shared_store.Tallies.{Tally}
 use Rattle.session.specs.Lapses.{Never, still}
 use Rattle.session.specs.Answers.{having, met_by}
 use Rattle.session.specs.Stops.{IsLineOf}

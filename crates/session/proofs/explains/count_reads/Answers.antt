@@ -11,7 +11,7 @@ use Rattle.final_fold.specs.part_history.Parts.{portion_of}
 use Rattle.replies.proofs.Causing.{says_answer, says_script}
 use Rattle.replies.proofs.Refusing.{explain_refused, explains_all}
 use Rattle.replies.proofs.Undamaged.{line_of}
-use Rattle.shared_store.specs.root_store.Stores.{core_parts}
+use Rattle.merge_workers.specs.shared_store.root_store.Stores.{core_parts}
 use Rattle.final_fold.specs.select_plan.Plans.{counts_over}
 use Rattle.session.specs.Lapses.{Never}
 use Rattle.session.proofs.Accounting.{refused_as, accounts_still}

@@ -20,7 +20,7 @@ use Rattle.replies.proofs.Causing.{says_failed, says_script}
 use Rattle.replies.proofs.Counting.{line_of_stage}
 use Rattle.replies.proofs.Meeting.{met_foresees}
 use Rattle.replies.proofs.Undamaged.{data_line, stage_line}
-use Rattle.shared_store.specs.Handed.{GivesSchema}
+use Rattle.merge_workers.specs.shared_store.Handed.{GivesSchema}
 use Rattle.session.specs.Lapses.{Never, still}
 use Rattle.session.specs.Answers.{AnswersFrom, having, met_by, place_of}
 use Rattle.session.proofs.Inserting.{data_is_cause, no_rows, no_such_table, not_empty, parts_come, parts_give, rows_give, rows_refused, rows_signed, some_commands}

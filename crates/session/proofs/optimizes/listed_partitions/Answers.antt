@@ -1,8 +1,8 @@
 use Rattle.std.proofs.Common.{List, is_some, ap, sym, subst}
-use Rattle.shared_store.specs.part_reader.declared.reading.Part.{Part}
-use Rattle.shared_store.specs.part_set.declared.kept.Kept.{Kept}
-use Rattle.shared_store.specs.part_set.Parts.{IsInBlockOrder}
-use Rattle.shared_store.specs.Handed.{Pins}
+use Rattle.merge_workers.specs.shared_store.part_reader.declared.reading.Part.{Part}
+use Rattle.merge_workers.specs.shared_store.part_set.declared.kept.Kept.{Kept}
+use Rattle.merge_workers.specs.shared_store.part_set.Parts.{IsInBlockOrder}
+use Rattle.merge_workers.specs.shared_store.Handed.{Pins}
 use Rattle.session.specs.Merges.{ArePartitionsOf}
 use Rattle.session.proofs.optimizes.listed_partitions.Goals as goal
 

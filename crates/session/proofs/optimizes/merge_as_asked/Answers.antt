@@ -28,7 +28,7 @@ returns-in-None-parse_partition-clause-merges g c =
     let text = c.args.text.now in
     let id = c.as_slice-id.result.now in
     let there : text.partition ≡ Some id = c.in-Some.is ∙ ap (λ (x : List ℕ). Some x) (sym c.as_slice-id.ensures) in
-    merges_none g.B.Names.given g.B.Names.opening g.B.Names.ledgers.parts c.args.share.now (g.R.Arm.failed c.args.arm.now) text.whole _ _ (asked_none g.F.Dir.files g.B.Names.given g.B.Room.before g.B.Names.opening g.B.Names.ledgers.parts text id there (none_named text id there c.parse_partition.result c.parse_partition.ensures.read c.in-None-parse_partition.is))
+    merges_none g.B.Names.given g.B.Names.opening g.B.Names.ledgers.parts c.args.share.now (g.R.Arm.failed c.args.arm.now) text.whole _ _ _ (asked_none g.F.Dir.files g.B.Names.given g.B.Room.before g.B.Names.opening g.B.Names.ledgers.parts text id there (none_named text id there c.parse_partition.result c.parse_partition.ensures.read c.in-None-parse_partition.is))
 
 -- all parts of one partition
 pub returns-in-Some-parse_partition-clause-merges : goal.returns-in-Some-parse_partition-clause-merges

@@ -1,6 +1,6 @@
 use Rattle.std.proofs.Common.{◌∙◌, not, is_some, ap, sym, subst}
 use Rattle.std.proofs.lemmas.Bool.{false≢true}
-use Rattle.shared_store.specs.Handed.{GivesSchema}
+use Rattle.merge_workers.specs.shared_store.Handed.{GivesSchema}
 use Rattle.session.proofs.optimizes.partitions_there.Goals.{else-text-via-then-text+else-is_none, else-text-via-else-text}
 use Rattle.session.proofs.optimizes.partitions_there.Goals as goal
 

@@ -8,10 +8,10 @@ use Rattle.replies.proofs.MtModelOwnColumns.{sorting_own}
 use Rattle.mt_values.specs.Values.{FitsType, Row}
 use Rattle.mt_values.specs.Grid.{picked}
 use Rattle.mt_values.proofs.Grids.{places_below}
-use Rattle.shared_store.specs.part_writer.PartFiles.{all_synced, files_of_part, loaded_of}
-use Rattle.shared_store.proofs.PartWriterContents.{content_length}
-use Rattle.shared_store.proofs.RootStoreTableIndexes.{has_indexes}
-use Rattle.shared_store.proofs.RootStoreTableMarks.{has_marks}
+use Rattle.merge_workers.specs.shared_store.part_writer.PartFiles.{all_synced, files_of_part, loaded_of}
+use Rattle.merge_workers.proofs.PartWriterContents.{content_length}
+use Rattle.merge_workers.proofs.RootStoreTableIndexes.{has_indexes}
+use Rattle.merge_workers.proofs.RootStoreTableMarks.{has_marks}
 use Rattle.session.proofs.SealedParts.{sealed_of}
 use Rattle.session.proofs.sealing.seal_block.Goals as goal
 

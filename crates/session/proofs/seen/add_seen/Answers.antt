@@ -2,9 +2,9 @@ use Rattle.std.proofs.lemmas.Result.{IfOk-weaker}
 use Rattle.std.proofs.Common.{◌≡◌, ◌∙◌, Bool, List, ℕ, IfErr, ap, arith, length, map, subst, sym}
 use Rattle.mt_values.specs.Grid.{Cells}
 use Rattle.replies.specs.mt_model.Live.{live}
-use Rattle.shared_store.specs.part_reader.declared.reading.Part.{Part}
-use Rattle.shared_store.specs.part_set.declared.kept.Kept.{Kept}
-use Rattle.shared_store.proofs.RootStoreTableMarks.{has_marks}
+use Rattle.merge_workers.specs.shared_store.part_reader.declared.reading.Part.{Part}
+use Rattle.merge_workers.specs.shared_store.part_set.declared.kept.Kept.{Kept}
+use Rattle.merge_workers.proofs.RootStoreTableMarks.{has_marks}
 use Rattle.final_fold.specs.select_plan.Plans.{planned}
 use Rattle.final_fold.specs.Folded.{AreAdded, AreOfPartitions, ExplainsFold, StandByPartition}
 use Rattle.final_fold.specs.Matches.{ExplainsMatches, matching}

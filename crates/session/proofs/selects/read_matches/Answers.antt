@@ -12,10 +12,10 @@ use Rattle.mt_values.specs.Schemas.{column_types}
 use Rattle.mt_values.specs.Tests.{eval}
 use Rattle.mt_values.specs.Values.{Row, types_of}
 use Rattle.mt_outside.specs.declared.disk.DiskError.TheVariants as failure
-use Rattle.shared_store.specs.part_reader.declared.reading.PartFault.{PartFault}
-use Rattle.shared_store.specs.part_reader.declared.reading.PartFault.TheVariants as fault
-use Rattle.shared_store.specs.part_reader.Faults.{IsNoDamage}
-use Rattle.shared_store.proofs.PartReaderCutRows.{empty_even, empty_many, lent_back, projected, typed_have_all}
+use Rattle.merge_workers.specs.shared_store.part_reader.declared.reading.PartFault.{PartFault}
+use Rattle.merge_workers.specs.shared_store.part_reader.declared.reading.PartFault.TheVariants as fault
+use Rattle.merge_workers.specs.shared_store.part_reader.Faults.{IsNoDamage}
+use Rattle.merge_workers.proofs.PartReaderCutRows.{empty_even, empty_many, lent_back, projected, typed_have_all}
 use Rattle.final_fold.specs.select_plan.Plans.{planned}
 use Rattle.final_fold.specs.Matches.{matching}
 use Rattle.final_fold.specs.Scans.{ArePlacesOf}

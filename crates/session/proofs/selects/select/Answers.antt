@@ -3,7 +3,7 @@ use Rattle.std.proofs.Common.{◌≡◌, ◌++◌, inl, ap, subst, arith}
 use Rattle.replies.specs.mt_model.declared.refusal.Refusal.TheVariants as refusal
 use Rattle.replies.specs.mt_model.Refusals.{is_damage, refusal_line}
 use Rattle.replies.proofs.Causing.{says_script}
-use Rattle.shared_store.specs.Handed.{Pins}
+use Rattle.merge_workers.specs.shared_store.Handed.{Pins}
 use Rattle.session.specs.Lapses.{still}
 use Rattle.session.specs.Answers.{TellsOfPinned}
 use Rattle.session.specs.Selects.{TellsOfDamage}

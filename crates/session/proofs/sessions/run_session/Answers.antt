@@ -1,36 +1,23 @@
-use Rattle.std.proofs.Common.{◌≡◌, ◌++◌, ◌∷◌, ℕ, true, List, [], All, length, inl, inr, refl, sym, ap, ◌∙◌, subst, arith, append-nil, append_assoc, reverse}
+use Rattle.std.proofs.Common.{◌≡◌, ◌++◌, ◌∷◌, ℕ, List, [], All, length, inl, inr, refl, sym, ap, ◌∙◌, subst, arith, append-nil, append_assoc, reverse}
 use Rattle.std.proofs.lemmas.List.Elements.{All-head, All-tail}
 use Rattle.mt_values.specs.Script.{Item}
 use Rattle.replies.specs.mt_model.Written.{IsWritten}
-use Rattle.session.specs.Runs.{HasRun, RunsSession}
+use Rattle.session.specs.Runs.{RanEach}
 use Rattle.session.specs.Answers.{having}
-use Rattle.session.proofs.Runs.{has_run_more, has_run_none, next_first, reverse_twice, run_ends}
+use Rattle.session.proofs.Runs.{next_first, reverse_twice}
+use Rattle.session.proofs.RunsEach.{each_more, ran_one, stays_each}
 use Rattle.session.proofs.sessions.run_session.Goals as goal
 
 -- there was no room for replies
 pub returns-in_default-clause-runs : goal.returns-in_default-clause-runs
-returns-in_default-clause-runs g c =
-    let seat = c.args.seat.now in
-    let share = c.args.share.now in
-    let arm = g.R.Arm.failed c.args.arm.now in
-    let x = having seat share arm in
-    subst (λ (rs : List (List ℕ)). RunsSession g.B.Names.given g.B.Room.before g.B.Names.opening g.B.Names.ledgers.parts c.args.statements.items rs true x x) (sym c.new-replies.ensures.items)
-    (inl ([], c.args.statements.items, refl, has_run_none g.B.Names.given g.B.Room.before g.B.Names.opening g.B.Names.ledgers.parts seat share arm c.requires.session c.requires.own))
+returns-in_default-clause-runs g c = inl (c.new-replies.ensures.items, refl)
 
 pub statements-init : goal.statements-init
 statements-init g c =
-    let seat = c.args.seat.now in
-    let share = c.args.share.now in
-    let x = having seat share (g.R.Arm.failed c.args.arm.now) in
-    let none = c.in-Ok.ensures.items in
+    let x = having c.args.seat.now c.args.share.now (g.R.Arm.failed c.args.arm.now) in
     let turned : reverse c.reverse.new.self.items ≡ c.args.statements.items = ap (λ (xs : List Item). reverse xs) c.reverse.ensures.items ∙ reverse_twice c.args.statements.items in
     record {
-      ran = (
-        [],
-        refl,
-        subst (λ (rs : List (List ℕ)). HasRun g.B.Names.given g.B.Room.before g.B.Names.opening g.B.Names.ledgers.parts [] rs x x) (sym none)
-            (has_run_none g.B.Names.given g.B.Room.before g.B.Names.opening g.B.Names.ledgers.parts seat share (g.R.Arm.failed c.args.arm.now) c.requires.session c.requires.own),
-      );
+      ran = ([], refl, subst (λ (rs : List (List ℕ)). RanEach g.F.Dir.files g.B.Names.given g.B.Room.before g.B.Names.opening g.B.Names.ledgers.parts [] rs x x) (sym c.in-Ok.ensures.items) refl);
       written = subst (All IsWritten) (sym turned) c.requires.written;
       room = (let room = c.in-Ok.ensures.capacity in let no_reply = c.in-Ok.ensures.len in let same = c.reverse.ensures.len in omega (arith, room, no_reply, same));
       tells = refl;
@@ -42,16 +29,16 @@ run_statement-requires-clause-written g c κs within =
     All-head IsWritten c.in-Some.statement (reverse c.pop.new.self.items) (subst (All IsWritten) (next_first c.statements.statements.items c.pop.new.self.items c.in-Some.statement c.in-Some.ensures.items) c.statements.invariant.written)
 
 pub run_statement-requires-clause-session : goal.run_statement-requires-clause-session
-run_statement-requires-clause-session g c κs within = c.statements.invariant.ran.2.stays.session
+run_statement-requires-clause-session g c κs within = (stays_each _ _ _ _ _ _ _ _ _ c.requires.session c.requires.own c.statements.invariant.ran.2).session
 
 pub run_statement-requires-clause-own : goal.run_statement-requires-clause-own
-run_statement-requires-clause-own g c κs within = c.statements.invariant.ran.2.stays.own_is
+run_statement-requires-clause-own g c κs within = (stays_each _ _ _ _ _ _ _ _ _ c.requires.session c.requires.own c.statements.invariant.ran.2).own_is
 
 pub run_statement-requires-clause-parts : goal.run_statement-requires-clause-parts
-run_statement-requires-clause-parts g c κs within = let same = c.statements.invariant.ran.2.stays.parts in omega (arith, same, c.requires.parts)
+run_statement-requires-clause-parts g c κs within = let same = (stays_each _ _ _ _ _ _ _ _ _ c.requires.session c.requires.own c.statements.invariant.ran.2).parts in omega (arith, same, c.requires.parts)
 
 pub run_statement-requires-clause-out : goal.run_statement-requires-clause-out
-run_statement-requires-clause-out g c κs within = let same = c.statements.invariant.ran.2.stays.out in omega (arith, same, c.requires.out)
+run_statement-requires-clause-out g c κs within = let same = (stays_each _ _ _ _ _ _ _ _ _ c.requires.session c.requires.own c.statements.invariant.ran.2).out in omega (arith, same, c.requires.out)
 
 pub run_statement-requires-clause-tells : goal.run_statement-requires-clause-tells
 run_statement-requires-clause-tells g c κs within = λ told. c.statements.invariant.tells ∙ c.requires.tells told
@@ -70,8 +57,9 @@ statements-preserved g c =
       ran = (
         ran.0 ++ c.in-Some.statement ∷ [],
         append_assoc ran.0 (c.in-Some.statement ∷ []) (reverse c.pop.new.self.items) ∙ (ap (λ (xs : List Item). ran.0 ++ xs) (sym next) ∙ ran.1),
-        subst (λ (rs : List (List ℕ)). HasRun g.B.Names.given g.B.Room.before g.B.Names.opening g.B.Names.ledgers.parts (ran.0 ++ c.in-Some.statement ∷ []) rs old new) (sym c.push_reserved.ensures.items)
-            (has_run_more g.B.Names.given g.B.Room.before g.B.Names.opening g.B.Names.ledgers.parts ran.0 c.statements.replies.items old here new ran.2 said.stays g.F.Dir.files c.in-Some.statement reply said.answers said.accounts said.stopped said.tries),
+        subst (λ (rs : List (List ℕ)). RanEach g.F.Dir.files g.B.Names.given g.B.Room.before g.B.Names.opening g.B.Names.ledgers.parts (ran.0 ++ c.in-Some.statement ∷ []) rs old new) (sym c.push_reserved.ensures.items)
+            (each_more g.F.Dir.files g.B.Names.given g.B.Room.before g.B.Names.opening g.B.Names.ledgers.parts ran.0 c.statements.replies.items old here new c.in-Some.statement reply ran.2
+            (ran_one g.F.Dir.files g.B.Names.given g.B.Room.before g.B.Names.opening g.B.Names.ledgers.parts c.in-Some.statement here new _ said.answers said.accounts said.shows said.stays said.stopped said.tries)),
       );
       written = All-tail IsWritten c.in-Some.statement (reverse c.pop.new.self.items) (subst (All IsWritten) next inv.written);
       room = (let room = inv.room in let fewer = c.in-Some.ensures.len in let one = c.push_reserved.ensures.len in let same = c.push_reserved.ensures.capacity in omega (arith, room, fewer, one, same));
@@ -83,7 +71,6 @@ pub returns-in-Err-clause-runs : goal.returns-in-Err-clause-runs
 returns-in-Err-clause-runs g c =
     let ran = c.statements.invariant.ran in
     let here = having c.statements.seat c.statements.share (g.R.Arm.failed c.statements.arm) in
-    let old = having c.args.seat.now c.args.share.now (g.R.Arm.failed c.args.arm.now) in
     let new = having c.run_statement.new.seat c.run_statement.new.share (g.R.Arm.failed c.run_statement.new.arm) in
     let said = c.in-Err.ensures in
     let next = next_first c.statements.statements.items c.pop.new.self.items c.in-Some.statement c.in-Some.ensures.items in
@@ -93,7 +80,11 @@ returns-in-Err-clause-runs g c =
       reverse c.pop.new.self.items,
       c.in-Some.statement,
       sym turned ∙ (sym ran.1 ∙ ap (λ (xs : List Item). ran.0 ++ xs) next),
-      run_ends g.B.Names.given g.B.Room.before g.B.Names.opening g.B.Names.ledgers.parts ran.0 c.statements.replies.items old here new ran.2 said.stays c.in-Some.statement c.in-Err.field-0 said.answers said.stopped said.tries,
+      (
+        here,
+        ran.2,
+        (c.in-Err.field-0, ran_one g.F.Dir.files g.B.Names.given g.B.Room.before g.B.Names.opening g.B.Names.ledgers.parts c.in-Some.statement here new _ said.answers said.accounts said.shows said.stays said.stopped said.tries),
+      ),
     )
 
 pub returns-in-Err-clause-tells : goal.returns-in-Err-clause-tells
@@ -111,7 +102,7 @@ returns-clause-runs g c =
     let new = having c.statements.seat c.statements.share (g.R.Arm.failed c.statements.arm) in
     let none = none_left c.statements.statements.items (omega (arith, c.statements.statements.ok.0, c.in_default-pop.ensures.cases.0)) in
     let turned = ap (λ (xs : List Item). reverse xs) c.reverse.ensures.items ∙ reverse_twice c.args.statements.items in
-    subst (λ (ss : List Item). HasRun g.B.Names.given g.B.Room.before g.B.Names.opening g.B.Names.ledgers.parts ss c.statements.replies.items old new)
+    subst (λ (ss : List Item). RanEach g.F.Dir.files g.B.Names.given g.B.Room.before g.B.Names.opening g.B.Names.ledgers.parts ss c.statements.replies.items old new)
     (sym (append-nil ran.0) ∙ (ap (λ (xs : List Item). ran.0 ++ reverse xs) (sym none) ∙ (ran.1 ∙ turned))) ran.2
 
 pub returns-clause-tells : goal.returns-clause-tells

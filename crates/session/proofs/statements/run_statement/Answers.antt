@@ -34,7 +34,7 @@ returns-in-Ok-Select-clause-accounts g c =
     let share = c.args.share.now in
     let before = g.R.Arm.failed c.args.arm.now in
     let after = g.R.Arm.failed c.select.new.arm in
-    subst (λ (st : Item). AccountsAt g.B.Names.opening g.B.Names.ledgers.parts (having v share before) (having w share after) (TellsAt g.F.Dir.files g.B.Names.given g.B.Room.before g.B.Names.opening w.list st) c.select.result) (sym (c.in-Ok-Select.is ∙ ap Ok c.in-Ok-Select.field-0-is))
+    subst (λ (st : Item). AccountsAt g.B.Names.opening g.B.Names.ledgers.parts (having v share before) (having w share after) (TellsAt g.F.Dir.files g.B.Names.given g.B.Room.before g.B.Names.opening g.B.Names.ledgers.parts w.list st) c.select.result) (sym (c.in-Ok-Select.is ∙ ap Ok c.in-Ok-Select.field-0-is))
     (accounts_still_at g.B.Names.opening g.B.Names.ledgers.parts v w share before after _ c.select.result c.select.ensures.accounts)
 
 pub returns-in-Ok-Select-clause-stays : goal.returns-in-Ok-Select-clause-stays
@@ -67,7 +67,7 @@ returns-in-Ok-Explain-clause-accounts g c =
     let w = c.explain.new.seat in
     let share = c.args.share.now in
     let arm = g.R.Arm.failed c.args.arm.now in
-    subst (λ (st : Item). AccountsAt g.B.Names.opening g.B.Names.ledgers.parts (having v share arm) (having w share arm) (TellsAt g.F.Dir.files g.B.Names.given g.B.Room.before g.B.Names.opening w.list st) c.explain.result) (sym (c.in-Ok-Explain.is ∙ ap Ok c.in-Ok-Explain.field-0-is))
+    subst (λ (st : Item). AccountsAt g.B.Names.opening g.B.Names.ledgers.parts (having v share arm) (having w share arm) (TellsAt g.F.Dir.files g.B.Names.given g.B.Room.before g.B.Names.opening g.B.Names.ledgers.parts w.list st) c.explain.result) (sym (c.in-Ok-Explain.is ∙ ap Ok c.in-Ok-Explain.field-0-is))
     (accounts_still_at g.B.Names.opening g.B.Names.ledgers.parts v w share arm arm Never c.explain.result (λ opened disk. c.explain.ensures.accounts opened disk arm))
 
 pub returns-in-Ok-Explain-clause-stays : goal.returns-in-Ok-Explain-clause-stays

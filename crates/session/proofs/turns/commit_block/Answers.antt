@@ -1,6 +1,6 @@
 use Rattle.std.proofs.Common.{Some, inl, inr, refl, ap, arith}
-use Rattle.shared_store.specs.part_writer.declared.writing.SealedPart.{SealedPart}
-use Rattle.shared_store.specs.Tallies.{Tally}
+use Rattle.merge_workers.specs.shared_store.part_writer.declared.writing.SealedPart.{SealedPart}
+use Rattle.merge_workers.specs.shared_store.Tallies.{Tally}
 use Rattle.session.specs.Lapses.{Never}
 use Rattle.session.specs.Answers.{having}
 use Rattle.session.proofs.Accounting.{arm_stays}

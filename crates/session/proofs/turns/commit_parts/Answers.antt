@@ -2,8 +2,8 @@ use Rattle.std.proofs.Common.{◌≡◌, ℕ, List, [], ◌∷◌, Some, Ok, Err
 use Rattle.mt_values.specs.declared.schema.Schema.{Schema}
 use Rattle.mt_values.specs.declared.statement.Statement.TheVariants as statement
 use Rattle.replies.specs.Foreseen.{AgreesWith, is_unsettled}
-use Rattle.shared_store.specs.Sharing.{schema_there}
-use Rattle.shared_store.specs.Tallies.{Tally}
+use Rattle.merge_workers.specs.shared_store.Sharing.{schema_there}
+use Rattle.merge_workers.specs.shared_store.Tallies.{Tally}
 use Rattle.session.specs.declared.sealing.SealedBlock.{SealedBlock}
 use Rattle.session.specs.declared.turns.TurnReply.{TurnReply}
 use Rattle.session.specs.declared.turns.TurnReply.TheVariants.{Refused}
