@@ -16,13 +16,15 @@ use Rattle.root_log.specs.root_store.Stores.{CoreStands, table_at}
 use Rattle.session.specs.mt_model.History.{History, IsLegal, entries_of}
 use Rattle.session.specs.replies.Foreseen.{history}
 use Rattle.session.specs.shared_store.history_seat.declared.view.View.{View}
+use Rattle.session.specs.shared_store.history_seat.Turns.{IsSession}
 use Rattle.session.specs.shared_store.history_seat.Views.{no_entry, session_view}
 use Rattle.session.specs.shared_store.Engines.{Opened, opened_of, schema_kept}
 use Rattle.session.specs.shared_store.Levels.{has_greatest}
 use Rattle.session.specs.shared_store.Sharing.{AtOpening, Finished}
 use Rattle.session.specs.shared_store.Stood.{IsListed, Premise, holds_at_opening}
 use Rattle.session.specs.shared_store.Tallies.{Tally, tally}
-use Rattle.session.specs.Answers.{Having, having}
+use Rattle.session.specs.Answers.{Having, KnowsOwn, having}
+use Rattle.session.proofs.RunsEach.{has_run_each}
 use Rattle.session.proofs.RunStreamsKnown.{appends_none}
 use Rattle.session.proofs.SharedStoreFinishing.{crashes_after}
 use Rattle.mt_program.specs.Courses.{Item, course_of, started}
@@ -107,7 +109,7 @@ module _ {F : Type 0} (files_of : F → Option Files) (tells : Type 0) (store : 
     listed = record { kept = kept; annals_is = is; list_is = sym same; begun_is = sym (ap begun_of is); stands = subst (λ (h : History). CoreStands files_of h store) (sym same) stands }
 
     module _ (whole : ℕ) (now : Storage) (started_now : Option (List ℕ)) (seat : View) (share : Tally) (f : Finished files_of given before opening whole now started_now (seat ∷ []) share) (arm_was arm : ℕ)
-        (ended : Ending) (script : List ℕ) (output : Output) (s : SeatServes given before opening whole ended script (having (session_view 0 []) (tally whole 0 0 0 0) arm_was) (having seat share arm) output) (told : tells) where
+        (ended : Ending) (script : List ℕ) (output : Output) (s : SeatServes files_of given before opening whole ended script (having (session_view 0 []) (tally whole 0 0 0 0) arm_was) (having seat share arm) output) (told : tells) where
       full : Bool
       full = has_greatest f.last.root.store
 
@@ -120,7 +122,7 @@ module _ {F : Type 0} (files_of : F → Option Files) (tells : Type 0) (store : 
       begun_same : begun ≡ kept.begun
       begun_same = ap begun_of is
 
-      ran_by : RootStands was.disk (history kept) → (unanswered : Option Item) → GoesBy given before opening whole s.course.ran unanswered s.course.replies (having (session_view 0 []) (tally whole 0 0 0 0) arm_was) (having seat share arm)
+      ran_by : RootStands was.disk (history kept) → (unanswered : Option Item) → GoesBy files_of given before opening whole s.course.ran unanswered s.course.replies (having (session_view 0 []) (tally whole 0 0 0 0) arm_was) (having seat share arm)
           → Ran kept stretch (course_of s.course.ran s.course.replies unanswered)
       ran_by rooted None r =
           ran_answered files_of given before opening whole now started_now seat share f arm_was arm kept told listed noted (subst (RootStands was.disk) (sym same) rooted) same begun_same was.disk s.course.ran s.course.replies r
@@ -135,7 +137,7 @@ module _ {F : Type 0} (files_of : F → Option Files) (tells : Type 0) (store : 
         record { course = s.course; rest = s.rest; out = s.out; split = s.split; ran = ran_by rooted s.course.unanswered s.ran; wrote = s.wrote; stops = s.stops },
       )
 
-      gained_from : RootStands was.disk (history kept) → (unanswered : Option Item) → GoesBy given before opening whole s.course.ran unanswered s.course.replies (having (session_view 0 []) (tally whole 0 0 0 0) arm_was) (having seat share arm)
+      gained_from : RootStands was.disk (history kept) → (unanswered : Option Item) → GoesBy files_of given before opening whole s.course.ran unanswered s.course.replies (having (session_view 0 []) (tally whole 0 0 0 0) arm_was) (having seat share arm)
           → IsGainedBy (started (course_of s.course.ran s.course.replies unanswered)) now.annals kept
       gained_from rooted None r =
           gained_answered files_of given before opening whole now started_now seat share f arm_was arm kept told listed noted (subst (RootStands was.disk) (sym same) rooted) same begun_same was.disk s.course.ran s.course.replies r
@@ -149,9 +151,10 @@ module _ {F : Type 0} (files_of : F → Option Files) (tells : Type 0) (store : 
           (crashes_after files_of given before opening whole now started_now (seat ∷ []) share f told listed kept start keeps) (gained_from rooted s.course.unanswered s.ran)
 
   -- nothing damaged was met where each part held rows
-  module _ (whole : ℕ) (old new : Having) (ended : Ending) (script : List ℕ) (output : Output) (s : SeatServes given before opening whole ended script old new output) (told : tells) (held : HasSoundParts files_of store) where
-    met_none : (unanswered : Option Item) → GoesBy given before opening whole s.course.ran unanswered s.course.replies old new → (e : Ending) → StopsBy e (course_of s.course.ran s.course.replies unanswered) s.rest s.out → MetNoDamage (Ok e)
-    met_none None r (ending.Done t) stops = stops.2.damages ∙ r.sound told held
+  module _ (whole : ℕ) (old new : Having) (ended : Ending) (script : List ℕ) (output : Output) (s : SeatServes files_of given before opening whole ended script old new output) (session : IsSession old.seat) (own_is : KnowsOwn old.seat) (told : tells)
+      (held : HasSoundParts files_of store) where
+    met_none : (unanswered : Option Item) → GoesBy files_of given before opening whole s.course.ran unanswered s.course.replies old new → (e : Ending) → StopsBy e (course_of s.course.ran s.course.replies unanswered) s.rest s.out → MetNoDamage (Ok e)
+    met_none None r (ending.Done t) stops = stops.2.damages ∙ (has_run_each files_of given before opening whole s.course.ran s.course.replies old new session own_is r).sound told held
     met_none (Some last) r (ending.Done t) stops = let bad : Some last ≡ None = stops.0 in cc
     met_none unanswered r ending.NoMemory stops = tt
     met_none unanswered r ending.WriteFault stops = tt

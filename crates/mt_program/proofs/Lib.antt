@@ -11,3 +11,7 @@ pub mod SeatServed
 pub mod ServedScripts
 pub mod Undamaged
 pub mod Unopened
+pub use Rattle.root_log.proofs.RootOpeningImagesShown
+pub use Rattle.session.proofs.SharedStoreStanding
+pub use Rattle.session.proofs.RootStoreTableIndexes
+pub use Rattle.session.proofs.RootStoreTableMarks

@@ -19,20 +19,22 @@ use Rattle.session.specs.mt_model.Outside.{Outside}
 use Rattle.session.specs.mt_model.Session.{IsNextCommand, SessionGives, SessionReplies}
 use Rattle.root_log.specs.root_store.Crashes.{Storage}
 use Rattle.root_log.specs.root_store.Soundness.{RootStands}
-use Rattle.session.specs.Answers.{unsettles, Having, StaysSession, having, met_by, place_of}
+use Rattle.session.specs.Answers.{unsettles, Having, KnowsOwn, StaysSession, having, met_by, place_of}
 use Rattle.session.specs.replies.Foreseen.{AgreesWith, history, is_unsettled}
 use Rattle.session.specs.shared_store.history_seat.declared.view.View.{View}
+use Rattle.session.specs.shared_store.history_seat.Turns.{IsSession}
 use Rattle.session.specs.shared_store.history_seat.Views.{Begins, KnowsBegun, own, session_view}
 use Rattle.session.specs.shared_store.Levels.{has_greatest}
 use Rattle.session.specs.shared_store.Sharing.{AtOpening, Finished, KnowsAll, begun_now}
 use Rattle.session.specs.shared_store.Stood.{ListsMore, Premise, is_listed, is_noted, is_rooted, is_told}
 use Rattle.session.specs.shared_store.Tallies.{Tally, tally}
-use Rattle.session.specs.Runs.{EndsRun, HasRun, IsTried, TriedLast, stops_told, RanTo, StandsStill}
+use Rattle.session.specs.Runs.{EndsRun, HasRun, IsTried, RanEach, RanOut, RanTo, StandsStill, TriedLast, stops_told}
 use Rattle.session.proofs.MtModelGained.{gives_append, replies_give}
 use Rattle.session.proofs.RepliesCounting.{some_counts}
 use Rattle.session.proofs.RepliesEnds.{length_history}
 use Rattle.session.proofs.Answering.{stays_then}
 use Rattle.session.proofs.Runs.{any_told, longer, some_told, still}
+use Rattle.session.proofs.RunsEach.{has_run_each, run_ends_each, stays_each}
 use Rattle.session.proofs.SharedStoreFinishing.{annals_list, annals_more, faults_are, levels_full, log_legal, stands_after, stops_rose}
 use Rattle.mt_program.specs.Courses.{AreSettled, AreStopped, GoesUnanswered, IsBegunBy, IsNextOf, Item, any_unsettles, course_of, started}
 use Rattle.mt_program.specs.Crashes.{IsGainedBy, MayBeBegunBy}
@@ -147,9 +149,10 @@ gives_started h ran None from place to gives same = subst (λ (m : ℕ). Session
 gives_started h ran (Some last) from place to gives goes = gives_append h 0 ran last from place to gives goes
 
 -- what stays of a session whose statements ran
-pub stays_of : (given : Premise → Type 0) (before : History) (o : AtOpening) (whole : ℕ) (ran : List Item) (unanswered : Option Item) (replies : List (List ℕ)) (old new : Having) → GoesBy given before o whole ran unanswered replies old new → StaysSession o whole old new
-stays_of given before o whole ran None replies old new r = r.stays
-stays_of given before o whole ran (Some last) replies old new e = stays_then o whole old e.0 new e.1.stays e.2
+pub stays_of : {F : Type 0} (files_of : F → Option Files) (given : Premise → Type 0) (before : History) (o : AtOpening) (whole : ℕ) (ran : List Item) (unanswered : Option Item) (replies : List (List ℕ)) (old new : Having) → IsSession old.seat → KnowsOwn old.seat
+    → GoesBy files_of given before o whole ran unanswered replies old new → StaysSession o whole old new
+stays_of files_of given before o whole ran None replies old new session own_is r = stays_each files_of given before o whole ran replies old new session own_is r
+stays_of files_of given before o whole ran (Some last) replies old new session own_is (mid, r, (why, one)) = stays_then o whole old mid new (stays_each files_of given before o whole ran replies old mid session own_is r) one.stays
 
 -- ---- the end of a run
 
@@ -399,7 +402,10 @@ module _ {F : Type 0} (files_of : F → Option Files) (given : Premise → Type 
   module _ (kept : Told) (told : given is_told) (known : given is_listed) (noted : given (is_noted kept)) (rooted : given is_rooted) (before_is : before ≡ history kept) (begun_first : o.begun ≡ kept.begun) (root_told : Option root.Told)
       (ran : List Item) (replies : List (List ℕ)) where
     -- each had a reply
-    module _ (r : HasRun given before o whole ran replies first_had has_now) where
+    module _ (each : RanEach files_of given before o whole ran replies first_had has_now) where
+      r : HasRun given before o whole ran replies first_had has_now
+      r = has_run_each files_of given before o whole ran replies first_had has_now (refl, refl) refl each
+
       counted_all : list_any is_unsettled replies ≡ true → 0 < share.stops
       counted_all some = let counted = r.stops in let told_of = any_told replies some in omega (arith, counted, told_of)
 
@@ -410,7 +416,10 @@ module _ {F : Type 0} (files_of : F → Option Files) (given : Premise → Type 
       gained_answered = gained_by r.stays kept told known noted before_is begun_first root_told ran replies None (place_of before seat) r.each refl r.stopped counted_all ran refl (if_tried ran replies has_now r.tried)
 
     -- one more had none
-    module _ (last : Item) (e : EndsRun given before o whole ran last replies first_had has_now) where
+    module _ (last : Item) (out : RanOut files_of given before o whole ran last replies first_had has_now) where
+      e : EndsRun given before o whole ran last replies first_had has_now
+      e = run_ends_each files_of given before o whole ran last replies first_had has_now (refl, refl) refl out
+
       both : StaysSession o whole first_had has_now
       both = stays_then o whole first_had e.0 has_now e.1.stays e.2
 

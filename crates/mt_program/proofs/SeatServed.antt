@@ -3,6 +3,7 @@ use Rattle.std.proofs.Common.{◌≡◌, ℕ, ◌+◌, false, List, [], ◌∷�
 use Rattle.std.specs.List.{concat}
 use Rattle.std.specs.Io.KnownBytes.{Appends}
 use Rattle.mt_values.specs.Script.{statements_of}
+use Rattle.mt_outside.specs.Files.{Files}
 use Rattle.session.specs.mt_model.History.{History}
 use Rattle.session.specs.replies.declared.tally.Tally.{Tally}
 use Rattle.session.specs.replies.Tallies.{tallied}
@@ -10,7 +11,7 @@ use Rattle.session.specs.run_streams.Streams.{AppendsFront}
 use Rattle.session.specs.shared_store.Sharing.{AtOpening}
 use Rattle.session.specs.shared_store.Stood.{Premise}
 use Rattle.session.specs.Answers.{Having}
-use Rattle.session.specs.Runs.{EndsRun, HasRun}
+use Rattle.session.specs.Runs.{RanEach, RanOut}
 use Rattle.session.proofs.RunStreamsKnown.{appends_more, appends_none}
 use Rattle.mt_program.specs.Courses.{Item, TalliesReplies, course_of}
 use Rattle.mt_program.specs.declared.serving.Ending.TheVariants as ending
@@ -19,30 +20,30 @@ use Rattle.mt_program.specs.Serving.{Output, Progress}
 use Rattle.mt_program.proofs.ServedScripts.{concat_push, further, tells_more}
 
 -- the statements of the script up to a place ran, and their replies were written
-pub record SeatServed (given : Premise → Type 0) (before : History) (o : AtOpening) (whole : ℕ) (p : Progress) (old new : Having) (output : Output) : Type 0 where
+pub record SeatServed {F : Type 0} (files_of : F → Option Files) (given : Premise → Type 0) (before : History) (o : AtOpening) (whole : ℕ) (p : Progress) (old new : Having) (output : Output) : Type 0 where
   pub done : List Item
   pub replies : List (List ℕ)
   pub split : statements_of p.script ≡ done ++ statements_of (drop p.at p.script)
-  pub ran : HasRun given before o whole done replies old new
+  pub ran : RanEach files_of given before o whole done replies old new
   pub wrote : Appends output.before output.after (concat replies)
   pub tells : TalliesReplies p.tally replies
 
-module _ (given : Premise → Type 0) (before : History) (o : AtOpening) (whole : ℕ) where
+module _ {F : Type 0} (files_of : F → Option Files) (given : Premise → Type 0) (before : History) (o : AtOpening) (whole : ℕ) where
   -- nothing was answered yet
-  pub seat_served_none : (script : List ℕ) (tally : Tally) (here : Having) (written : Option (List ℕ)) → HasRun given before o whole [] [] here here → tally.refused ≡ false → tally.damaged ≡ false
-      → SeatServed given before o whole (record { script = script; at = 0; tally = tally }) here here (record { before = written; after = written })
-  seat_served_none script tally here written none refused damaged = record {
+  pub seat_served_none : (script : List ℕ) (tally : Tally) (here : Having) (written : Option (List ℕ)) → tally.refused ≡ false → tally.damaged ≡ false
+      → SeatServed files_of given before o whole (record { script = script; at = 0; tally = tally }) here here (record { before = written; after = written })
+  seat_served_none script tally here written refused damaged = record {
     done = [];
     replies = [];
     split = refl;
-    ran = none;
+    ran = refl;
     wrote = appends_none written;
     tells = record { refusals = refused; damages = damaged };
   }
 
-  module _ (p : Progress) (old mid : Having) (output : Output) (s : SeatServed given before o whole p old mid output) where
+  module _ (p : Progress) (old mid : Having) (output : Output) (s : SeatServed files_of given before o whole p old mid output) where
     -- nothing is left
-    pub seat_served_all : statements_of (drop p.at p.script) ≡ [] → SeatServes given before o whole (ending.Done p.tally) p.script old mid output
+    pub seat_served_all : statements_of (drop p.at p.script) ≡ [] → SeatServes files_of given before o whole (ending.Done p.tally) p.script old mid output
     seat_served_all none = record {
       course = course_of s.done s.replies None;
       rest = statements_of (drop p.at p.script);
@@ -54,7 +55,7 @@ module _ (given : Premise → Type 0) (before : History) (o : AtOpening) (whole 
     }
 
     -- no reply was begun after the last
-    pub seat_served_so_far : SeatServes given before o whole ending.NoMemory p.script old mid output
+    pub seat_served_so_far : SeatServes files_of given before o whole ending.NoMemory p.script old mid output
     seat_served_so_far = record {
       course = course_of s.done s.replies None;
       rest = statements_of (drop p.at p.script);
@@ -70,7 +71,7 @@ module _ (given : Premise → Type 0) (before : History) (o : AtOpening) (whole 
       split_more = s.split ∙ (ap (λ ss. s.done ++ ss) left ∙ sym (append_assoc s.done (st ∷ []) (statements_of (drop (p.at + used) p.script))))
 
       -- the next statement had no reply
-      pub seat_served_unanswered : EndsRun given before o whole s.done st s.replies old new → SeatServes given before o whole ending.NoMemory p.script old new output
+      pub seat_served_unanswered : RanOut files_of given before o whole s.done st s.replies old new → SeatServes files_of given before o whole ending.NoMemory p.script old new output
       seat_served_unanswered ends = record {
         course = course_of s.done s.replies (Some st);
         rest = statements_of (drop (p.at + used) p.script);
@@ -81,9 +82,9 @@ module _ (given : Premise → Type 0) (before : History) (o : AtOpening) (whole 
         stops = refl;
       }
 
-      module _ (reply : List ℕ) (more : HasRun given before o whole (s.done ++ st ∷ []) (s.replies ++ reply ∷ []) old new) where
+      module _ (reply : List ℕ) (more : RanEach files_of given before o whole (s.done ++ st ∷ []) (s.replies ++ reply ∷ []) old new) where
         -- its reply was written whole
-        pub seat_served_more : (told : Tally) → told ≡ tallied p.tally reply → (written : Option (List ℕ)) → Appends output.after written reply → SeatServed given before o whole (further p used told) old new (record { before = output.before; after = written })
+        pub seat_served_more : (told : Tally) → told ≡ tallied p.tally reply → (written : Option (List ℕ)) → Appends output.after written reply → SeatServed files_of given before o whole (further p used told) old new (record { before = output.before; after = written })
         seat_served_more told told_is written wrote = record {
           done = s.done ++ st ∷ [];
           replies = s.replies ++ reply ∷ [];
@@ -94,7 +95,7 @@ module _ (given : Premise → Type 0) (before : History) (o : AtOpening) (whole 
         }
 
         -- a front of its reply was written
-        pub seat_served_cut : (written : Option (List ℕ)) → AppendsFront output.after written reply → SeatServes given before o whole ending.WriteFault p.script old new (record { before = output.before; after = written })
+        pub seat_served_cut : (written : Option (List ℕ)) → AppendsFront output.after written reply → SeatServes files_of given before o whole ending.WriteFault p.script old new (record { before = output.before; after = written })
         seat_served_cut written w = record {
           course = course_of (s.done ++ st ∷ []) (s.replies ++ reply ∷ []) None;
           rest = statements_of (drop (p.at + used) p.script);

@@ -9,3 +9,5 @@ pub mod Serving
 pub mod Sharing
 pub mod Statuses
 pub mod Worlds
+pub use Rattle.root_log.specs as root_log
+pub use Rattle.session.specs as session

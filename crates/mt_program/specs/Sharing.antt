@@ -33,5 +33,5 @@ begun_of (Some told) = told.begun
 abbrev pub LeavesShared : {F : Type 0} → (F → Option Files) → (Premise → Type 0) → History → AtOpening → ℕ → Ending → List ℕ → Storage → Storage → Option (List ℕ) → ℕ → ℕ → Output → Type 0
 LeavesShared files_of given before o whole ended script was now started arm_was arm output =
     ((seat : View) × (share : Tally) × Finished files_of given before o whole now started (seat ∷ []) share
-    × SeatServes given before o whole ended script (having (session_view 0 []) (tally whole 0 0 0 0) arm_was) (having seat share arm) output)
+    × SeatServes files_of given before o whole ended script (having (session_view 0 []) (tally whole 0 0 0 0) arm_was) (having seat share arm) output)
     ⊎ ((ended ≡ ending.NoMemory) × (now ≡ was) × (started ≡ o.started) × (arm ≡ arm_was) × (output.after ≡ output.before))

@@ -9,7 +9,9 @@ mod status;
 mod top;
 
 pub use laws::premises_are_met;
+pub use root_log;
 pub use serving::Ending;
+pub use session;
 pub use session::replies::Tally;
 pub use session::run_streams::SourceStop;
 pub use status::Status;

@@ -83,7 +83,7 @@ pub fn serve_session<
       before = K.written sink.old;
       after = K.written sink.new;
     } in
-        SeatServes B.given B.before B.opening B.ledgers.parts result script.now
+        SeatServes F.files B.given B.before B.opening B.ledgers.parts result script.now
         (having seat.old share.old (R.failed arm.old))
         (having seat.new share.new (R.failed arm.new)) output }
 

@@ -1,5 +1,5 @@
 // A script run by session 0, which alone has a root that was opened.
-ghost use Rattle.std.specs.Prelude.{◌≡◌, ◌<◌, ◌≤◌, [], ℕ, Bool, None, Ok, Some, length, true};
+ghost use Rattle.std.specs.Prelude.{◌≡◌, ◌<◌, ◌≤◌, ℕ, Bool, Ok, Some, length, true};
 ghost use Rattle.mt_values.specs.Annals.{Told};
 ghost use Rattle.mt_outside.specs.Causes.{Rose};
 ghost use Rattle.root_log.specs.root_store.Crashes.{KeepsThroughCrashes};
@@ -9,8 +9,8 @@ ghost use Rattle.root_log.specs.root_store.Stores.{CoreStands};
 ghost use Rattle.session.specs.replies.Foreseen.{history};
 ghost use Rattle.session.specs.shared_store.history_seat.Views.{name};
 ghost use Rattle.session.specs.shared_store.Engines.{opened_of};
-ghost use Rattle.session.specs.shared_store.Sharing.{Fits};
-ghost use Rattle.session.specs.shared_store.Stood.{Stood, is_told};
+ghost use Rattle.session.specs.shared_store.Sharing.{AreLedgersOf, IsToBeShared};
+ghost use Rattle.session.specs.shared_store.Stood.{is_told};
 ghost use Rattle.mt_values.specs.Script.{statements_of};
 ghost use Rattle.mt_program.specs.Crashes.{LeavesForCrashes};
 ghost use Rattle.mt_program.specs.Endings.{MetNoDamage};
@@ -64,28 +64,13 @@ fn serve_alone<
 ) -> Served<D, A>
     // The names are of these blanks.
     requires word { blanks.word ≡ name B.table (length B.before) }
-    requires works { (blanks.works.name ≡ B.ledgers.works)
-        × (blanks.works.parts ≡ B.ledgers.parts) }
-    requires stops { (blanks.stops.name ≡ B.ledgers.stops)
-        × (blanks.stops.parts ≡ B.ledgers.parts) }
-    requires levels { (blanks.levels.name ≡ B.ledgers.levels)
-        × (blanks.levels.parts ≡ B.ledgers.parts) }
-    requires faults { (blanks.faults.name ≡ B.ledgers.faults)
-        × (blanks.faults.parts ≡ B.ledgers.parts) }
+    requires ledgers { AreLedgersOf B.ledgers blanks }
     requires parts { 0 < B.ledgers.parts }
 
-    // The root is as it was opened.
-    requires ready { IsReady (D.failed disk) (D.told disk) store }
-    requires opened { store.opened ≡ B.opening.failed }
-    requires policy { policy ≡ B.opening.policy }
-    requires shared { D.failed disk ≡ B.opening.shared }
-    requires started { D.started disk ≡ B.opening.started }
-    requires idle { HasNoMark store }
-
-    // What is known of it holds so far as the premises do.
-    requires fits { Fits B.before B.opening.tables [] store }
-    requires stood { Stood F.files B.given 0 None B.opening.begun B.before (opened_of store policy
-        (storage_of D.Disk A.Annals (disk, annals)) (D.started disk)) }
+    // The root is as it was opened; what is known of it holds so far as the premises do.
+    requires root { IsToBeShared F.files B.given B.before B.opening (opened_of store policy
+        (storage_of D.Disk A.Annals (disk, annals))
+        (D.started disk)) }
     requires tells { B.given is_told → R.tells arm.old ≡ true }
 
     ensures left { let output : Output = record {

@@ -18,7 +18,7 @@ pub enum Status {
     /// The disk's count of faults rose, or stood at its type's end before.
     DiskFault,
     NoMemory,
-    /// The root has a name, or a file of a part is damaged.
+    /// The root was found damaged as it was opened, or a reply told of damage.
     Damaged,
     /// 2^40 bytes were read, and no end was met.
     TooLong,

@@ -342,7 +342,8 @@ fn line_of<'a>(alloc: Global, words: &'a [String]) -> Result<CommandLine<'a>, St
 ///
 /// The status is 0 where all statements were answered, 1 where one of them was refused for what the script says, 2 where the words
 /// are no command line, 3 where the source failed, 4 where the sink failed, 5 where the disk's count of faults rose, 6 for want of
-/// memory, 7 where the root is damaged, and 8 where 2^40 bytes were read and no end was met.
+/// memory, 7 where the root was found damaged as it was opened or a reply told of damage (`E19`), and 8 where 2^40 bytes were read and
+/// no end was met.
 pub fn run<R: Threads + Wait + Sync, D: Disk, A: Annals, S: Source, K: Sink, G: Gate>(
     rt: &R,
     alloc: Global,

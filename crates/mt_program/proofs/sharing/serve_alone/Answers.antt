@@ -13,7 +13,7 @@ use Rattle.mt_program.proofs.sharing.serve_alone.Goals as goal
 
 -- memory ran out before it was shared
 pub returns-in-Err-clause-left : goal.returns-in-Err-clause-left
-returns-in-Err-clause-left g c = inr (refl, refl, c.requires.started, refl, refl)
+returns-in-Err-clause-left g c = inr (refl, refl, c.requires.root.shared.started_is, refl, refl)
 
 -- session 0 as it is made
 pub serve_session-end-requires-clause-session : goal.serve_session-end-requires-clause-session
@@ -32,9 +32,11 @@ serve_session-end-requires-clause-out g c κs within = ap (λ (t : Tally). t.out
 pub finish-disk-requires-after_bounds : goal.finish-disk-requires-after_bounds
 finish-disk-requires-after_bounds g c κs within =
     let s = c.serve_session-end.ensures.run in
+    let session = subst IsSession (sym c.new-shared.ensures.seat) (refl, refl) in
+    let own_is = subst KnowsOwn (sym c.new-shared.ensures.seat) refl in
     let items = c.push_reserved.ensures.items ∙ ap (λ (l : List View). l ++ c.serve_session-end.new.seat ∷ []) c.in-Ok.ensures.items in
     subst (λ (l : List View). All IsSession l) (sym items)
-    (All-cons IsSession c.serve_session-end.new.seat [] (stays_of g.B.Names.given g.B.Room.before g.B.Names.opening g.B.Names.ledgers.parts _ _ _ _ _ s.ran).session (All-nil IsSession))
+    (All-cons IsSession c.serve_session-end.new.seat [] (stays_of g.F.Dir.files g.B.Names.given g.B.Room.before g.B.Names.opening g.B.Names.ledgers.parts _ _ _ _ _ session own_is s.ran).session (All-nil IsSession))
 
 pub returns-clause-left : goal.returns-clause-left
 returns-clause-left g c =
@@ -49,6 +51,6 @@ returns-clause-left g c =
       seat,
       share,
       subst (λ (l : List View). Finished g.F.Dir.files g.B.Names.given g.B.Room.before g.B.Names.opening parts (storage_of g.D.Disk g.A.Annals (c.finish-disk.result.0, c.finish-disk.result.1)) (g.D.Disk.started c.finish-disk.result.0) l share) items c.finish-disk.ensures,
-      subst (λ (v : View). SeatServes g.B.Names.given g.B.Room.before g.B.Names.opening parts c.serve_session-end.result c.args.script.now (having v (tally parts 0 0 0 0) arm_was) (having seat share arm) output) c.new-shared.ensures.seat
-          (subst (λ (t : Tally). SeatServes g.B.Names.given g.B.Room.before g.B.Names.opening parts c.serve_session-end.result c.args.script.now (having c.new-shared.result.1 t arm_was) (having seat share arm) output) c.new-shared.ensures.share c.serve_session-end.ensures.run),
+      subst (λ (v : View). SeatServes g.F.Dir.files g.B.Names.given g.B.Room.before g.B.Names.opening parts c.serve_session-end.result c.args.script.now (having v (tally parts 0 0 0 0) arm_was) (having seat share arm) output) c.new-shared.ensures.seat
+          (subst (λ (t : Tally). SeatServes g.F.Dir.files g.B.Names.given g.B.Room.before g.B.Names.opening parts c.serve_session-end.result c.args.script.now (having c.new-shared.result.1 t arm_was) (having seat share arm) output) c.new-shared.ensures.share c.serve_session-end.ensures.run),
     )

@@ -5,7 +5,7 @@ use Rattle.root_log.specs.root_store.Soundness.{RootStands}
 use Rattle.session.specs.replies.Foreseen.{history}
 use Rattle.session.specs.shared_store.history_seat.Views.{name}
 use Rattle.session.specs.shared_store.Engines.{opened_of}
-use Rattle.session.proofs.SharedStoreOpening.{fits_opening, stood_opening}
+use Rattle.session.proofs.SharedStoreOpening.{stood_opening, to_be_shared}
 use Rattle.mt_program.specs.Crashes.{LeavesForCrashes}
 use Rattle.mt_program.specs.declared.serving.Ending.{Ending}
 use Rattle.mt_program.specs.Endings.{MetNoDamage}
@@ -36,28 +36,21 @@ returns-in-Err-clause-through_crashes g c = λ kept start is tells core rooted k
 pub serve_alone-requires-clause-word : goal.serve_alone-requires-clause-word
 serve_alone-requires-clause-word g c κs within = ap (name c.in-Ok.blanks.word.table) (c.in-Ok.ensures.word ∙ sym (before_long (g.A.Annals.told c.args.annals) c.args.store.length))
 
-pub serve_alone-requires-clause-stops : goal.serve_alone-requires-clause-stops
-serve_alone-requires-clause-stops g c κs within = let p = c.in-Ok.ensures.parts in (refl, p.1 ∙ sym p.0)
-
-pub serve_alone-requires-clause-levels : goal.serve_alone-requires-clause-levels
-serve_alone-requires-clause-levels g c κs within = let p = c.in-Ok.ensures.parts in (refl, p.2 ∙ sym p.0)
-
-pub serve_alone-requires-clause-faults : goal.serve_alone-requires-clause-faults
-serve_alone-requires-clause-faults g c κs within = let p = c.in-Ok.ensures.parts in (refl, p.3 ∙ sym p.0)
+pub serve_alone-requires-clause-ledgers : goal.serve_alone-requires-clause-ledgers
+serve_alone-requires-clause-ledgers g c κs within = let p = c.in-Ok.ensures.parts in (refl, refl, refl, p.1 ∙ sym p.0, refl, p.2 ∙ sym p.0, refl, p.3 ∙ sym p.0)
 
 pub serve_alone-requires-clause-parts : goal.serve_alone-requires-clause-parts
 serve_alone-requires-clause-parts g c κs within = let parts = c.in-Ok.ensures.parts.0 in omega (arith, parts)
 
 -- what is known of it
-pub serve_alone-requires-clause-fits : goal.serve_alone-requires-clause-fits
-serve_alone-requires-clause-fits g c κs within =
+pub serve_alone-requires-clause-root : goal.serve_alone-requires-clause-root
+serve_alone-requires-clause-root g c κs within =
     let told = g.A.Annals.told c.args.annals in
-    fits_opening (before_of told c.args.store.length) c.args.store (sym (before_long told c.args.store.length))
-
-pub serve_alone-requires-clause-stood : goal.serve_alone-requires-clause-stood
-serve_alone-requires-clause-stood g c κs within =
-    let told = g.A.Annals.told c.args.annals in
-    stood_opening g.F.Dir.files _ (before_of told c.args.store.length) (begun_of told) (opened_of c.args.store c.args.policy (storage_of g.D.Disk g.A.Annals (c.args.disk, c.args.annals)) (g.D.Disk.started c.args.disk))
+    let was = storage_of g.D.Disk g.A.Annals (c.args.disk, c.args.annals) in
+    let folder = g.D.Disk.started c.args.disk in
+    let before = before_of told c.args.store.length in
+    to_be_shared g.F.Dir.files _ before (begun_of told) c.args.policy c.args.store was folder c.requires.ready c.requires.idle (sym (before_long told c.args.store.length))
+    (stood_opening g.F.Dir.files _ before (begun_of told) (opened_of c.args.store c.args.policy was folder))
 
 pub serve_alone-requires-clause-tells : goal.serve_alone-requires-clause-tells
 serve_alone-requires-clause-tells g c κs within = λ told. told
@@ -87,7 +80,7 @@ returns-clause-undamaged g c = λ tells held.
     let a = c.args in
     let was = storage_of g.D.Disk g.A.Annals (a.disk, a.annals) in
     elim c.serve_alone.ensures.left [
-      | inl (seat, share, f, s) ↦ undamaged_alone g.F.Dir.files _ a.store a.policy was (g.D.Disk.started a.disk) _ _ _ c.serve_alone.result.end a.script.now _ s tells held
+      | inl (seat, share, f, s) ↦ undamaged_alone g.F.Dir.files _ a.store a.policy was (g.D.Disk.started a.disk) _ _ _ c.serve_alone.result.end a.script.now _ s (refl, refl) refl tells held
       | inr (end, same, folder, calm, out) ↦ subst (λ (e : Ending). MetNoDamage (Ok e)) (sym end) tt
     ]
 
@@ -115,6 +108,6 @@ returns-clause-disk_later g c = elim c.serve_alone.ensures.left [
 
 pub returns-clause-arm_later : goal.returns-clause-arm_later
 returns-clause-arm_later g c = elim c.serve_alone.ensures.left [
-  | inl (seat, share, f, s) ↦ (stays_of _ _ _ _ _ _ _ _ _ s.ran).since.arm
+  | inl (seat, share, f, s) ↦ (stays_of _ _ _ _ _ _ _ _ _ _ (refl, refl) refl s.ran).since.arm
   | inr (end, same, folder, calm, out) ↦ omega (arith, calm)
 ]
