@@ -12,21 +12,22 @@ ghost use Rattle.root_log.specs.root_store.Soundness.{IsReady};
 ghost use Rattle.session.specs.shared_store.history_seat.Turns.{IsSession};
 ghost use Rattle.session.specs.shared_store.history_seat.Views.{name};
 ghost use Rattle.session.specs.shared_store.Engines.{opened_of};
-ghost use Rattle.session.specs.shared_store.Sharing.{Fits};
-ghost use Rattle.session.specs.shared_store.Stood.{Stood, is_told};
+ghost use Rattle.session.specs.shared_store.Sharing.{AreLedgersOf, IsToBeShared};
+ghost use Rattle.session.specs.shared_store.Stood.{is_told};
 ghost use Rattle.root_log.specs.root_commits.Turns.{storage};
 ghost use Rattle.session.specs.mt_model.Written.{IsWritten};
 ghost use Rattle.session.specs.Answers.{KnowsOwn};
 
 use disk_mem::{CallKind, KeptAnnals, Listed, MemDisk};
-use merge_workers::{Carried, carry_out};
 use mt_base::{NoMemory, Partition, Policy, Seq};
 use mt_outside::{Arm, Dir, Disk, DiskError, OpenGate};
 use mt_values::{Annals, Cause, Statement};
 use root_log::sql_read::{Next, next_statement};
 use root_log::{CoreStore, open};
+use session::merge_workers::{Carried, carry_out};
 use session::shared_store::history_seat::Seat;
 use session::shared_store::merge_select::Scope;
+use session::shared_store::part_name::{PartName, text};
 use session::shared_store::{Blanks, Names, Share, Shared, TakeFault};
 use session::{Replies, run_session, run_statement};
 use std::alloc::Global;
@@ -88,14 +89,29 @@ fn failing(case: Case) -> Option<Listed> {
     })
 }
 
-/// What is told of a work that was carried out.
-fn ended(carried: Carried) -> &'static str {
+/// What is told of a work that was carried out, and the part of it that was gone, if one was.
+fn ended(carried: Carried) -> (&'static str, Option<PartName>) {
     match carried {
-        Carried::Done => "put",
-        Carried::Gone(_) => "gone",
-        Carried::Refused(_) => "refused",
-        Carried::Unread(_, _) => "not read",
+        Carried::Done => ("put", None),
+        Carried::Gone(part) => ("gone", Some(part)),
+        Carried::Refused(_) => ("refused", None),
+        Carried::Unread(_, _) => ("not read", None),
     }
+}
+
+/// Tells what became of a merge.
+fn tell_end(
+    alloc: Global,
+    told: &mut String,
+    end: &'static str,
+    part: Option<PartName>,
+) -> Result<(), NoMemory> {
+    write!(told, "  the merge: {end}").map_err(|_| NoMemory)?;
+    if let Some(part) = part {
+        let name = text(alloc, &part)?;
+        write!(told, " {}", name.escape_ascii()).map_err(|_| NoMemory)?;
+    }
+    write!(told, "\n").map_err(|_| NoMemory)
 }
 
 /// Runs a statement of the session and tells its reply.
@@ -203,16 +219,16 @@ fn beside<W: Wait, F: Dir, R: Arm<Dir = F>, D: Disk<Arm = R>, A: Annals, B: Name
     ];
     let arm = &mut arms.sessions;
     let said = say_all(rt, alloc, shared, seat, share, arm, told, &texts);
-    let end = match case {
+    let (end, part) = match case {
         Case::LetGo => {
             shared.drop_work(rt, &mut worker, work);
-            "let go"
+            ("let go", None)
         }
         _ => ended(carry_out(rt, alloc, shared, &mut worker, &mut arms.worker, work)),
     };
     share.merge(worker);
     said?;
-    write!(told, "  the merge: {end}\n").map_err(|_| NoMemory)?;
+    tell_end(alloc, told, end, part)?;
     Ok(())
 }
 
@@ -365,28 +381,13 @@ fn show<W: Wait, F: Dir, R: Arm<Dir = F>, D: Disk<Arm = R>, A: Annals, B: Names>
 ) -> (Result<(), Fault>, D, A)
     // The names are of these blanks.
     requires word { blanks.word ≡ name B.table (length B.before) }
-    requires works { (blanks.works.name ≡ B.ledgers.works)
-        × (blanks.works.parts ≡ B.ledgers.parts) }
-    requires stops { (blanks.stops.name ≡ B.ledgers.stops)
-        × (blanks.stops.parts ≡ B.ledgers.parts) }
-    requires levels { (blanks.levels.name ≡ B.ledgers.levels)
-        × (blanks.levels.parts ≡ B.ledgers.parts) }
-    requires faults { (blanks.faults.name ≡ B.ledgers.faults)
-        × (blanks.faults.parts ≡ B.ledgers.parts) }
+    requires ledgers { AreLedgersOf B.ledgers blanks }
     requires parts { 1 < B.ledgers.parts }
 
-    // The root is as it was opened.
-    requires ready { IsReady (D.failed disk) (D.told disk) store }
-    requires opened { store.opened ≡ B.opening.failed }
-    requires policy { B.opening.policy ≡ Policy.Head }
-    requires shared { D.failed disk ≡ B.opening.shared }
-    requires started { D.started disk ≡ B.opening.started }
-    requires idle { HasNoMark store }
-
-    // What is known of it holds so far as the premises do.
-    requires fits { Fits B.before B.opening.tables [] store }
-    requires stood { Stood F.files B.given 0 None B.opening.begun B.before (opened_of store Policy.Head
-        (storage (D.told disk) (D.clock disk) (D.failed disk) (A.told annals)) (D.started disk)) }
+    // The root is as it was opened; what is known of it holds so far as the premises do.
+    requires root { IsToBeShared F.files B.given B.before B.opening (opened_of store Policy.Head
+        (storage (D.told disk) (D.clock disk) (D.failed disk) (A.told annals))
+        (D.started disk)) }
     requires tells { B.given is_told → R.tells arms.old.sessions ≡ true }
     requires worker { B.given is_told → R.tells arms.old.worker ≡ true }
 {

@@ -2,11 +2,11 @@
 use Rattle.std.proofs.Common.{◌≡◌, ℕ, Option, Some, refl, sym, ◌∙◌, arith}
 use Rattle.mt_outside.specs.Disk.{Names, Told, names_of}
 use Rattle.mt_outside.specs.Files.{Files}
-use Rattle.root_log.proofs.RootOpeningImagesShown.{shown_opened}
-use Rattle.root_log.specs.root_opening.Opened.{Opens}
-use Rattle.root_log.specs.root_store.Shown.{AreShown, GreatestAreShown}
-use Rattle.root_log.specs.root_store.Soundness.{IsReady}
-use Rattle.root_log.specs.root_store.declared.store.CoreStore.{CoreStore}
+use Rattle.mt_program.proofs.RootOpeningImagesShown.{shown_opened}
+use Rattle.mt_program.specs.root_log.root_opening.Opened.{Opens}
+use Rattle.mt_program.specs.root_log.root_store.Shown.{AreShown, GreatestAreShown}
+use Rattle.mt_program.specs.root_log.root_store.Soundness.{IsReady}
+use Rattle.mt_program.specs.root_log.root_store.declared.store.CoreStore.{CoreStore}
 
 -- the parts of the greatest level are shown, as all are
 greatest : {F : Type 0} (store : CoreStore F) (names : Names) → AreShown store names → GreatestAreShown store names

@@ -1,17 +1,17 @@
 -- Works that were taken up, and the schema of a table that is pinned.
 use Rattle.std.proofs.Common.{◌≡◌, ◌<◌, Option, Some, None, Result, Ok, IfOk, IfSome, List, ℕ, length, sym, ap, subst, arith}
 use Rattle.std.specs.Option.{ok_or}
-use Rattle.session.proofs.SharedStoreStanding.{long_run}
-use Rattle.session.specs.mt_model.History.{IsTableSchema}
-use Rattle.session.specs.shared_store.Engines.{GoesOn, IsOpen, Opened, Snaps}
-use Rattle.session.specs.shared_store.Works.{TakesPair, TakesUp, parts_beside}
-use Rattle.session.specs.shared_store.declared.work.Work.{Work}
-use Rattle.session.specs.shared_store.mutation_queue.declared.scope.Scope.{Scope}
-use Rattle.session.specs.shared_store.part_reader.declared.reading.Part.{Part}
-use Rattle.session.specs.shared_store.part_set.declared.kept.Kept.{Kept}
-use Rattle.session.specs.shared_store.part_set.declared.kept.Snap.{Snap}
-use Rattle.session.specs.shared_store.part_set.declared.run.Run.{Run}
-use Rattle.session.specs.shared_store.root_store.declared.store.CoreStore.{CoreStore}
+use Rattle.mt_program.proofs.SharedStoreStanding.{long_run}
+use Rattle.mt_program.specs.session.mt_model.History.{IsTableSchema}
+use Rattle.mt_program.specs.session.shared_store.Engines.{GoesOn, IsOpen, Opened, Snaps}
+use Rattle.mt_program.specs.session.shared_store.Works.{TakesPair, TakesUp, parts_beside}
+use Rattle.mt_program.specs.session.shared_store.declared.work.Work.{Work}
+use Rattle.mt_program.specs.session.shared_store.mutation_queue.declared.scope.Scope.{Scope}
+use Rattle.mt_program.specs.session.shared_store.part_reader.declared.reading.Part.{Part}
+use Rattle.mt_program.specs.session.shared_store.part_set.declared.kept.Kept.{Kept}
+use Rattle.mt_program.specs.session.shared_store.part_set.declared.kept.Snap.{Snap}
+use Rattle.mt_program.specs.session.shared_store.part_set.declared.run.Run.{Run}
+use Rattle.mt_program.specs.session.shared_store.root_store.declared.store.CoreStore.{CoreStore}
 use Rattle.run_works.specs.Works.{MayBeMerged}
 
 -- what is there where an error else is answered

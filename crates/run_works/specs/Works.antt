@@ -1,7 +1,7 @@
 -- Works that may be merged (docs/testing.md, "Works: `run_works`").
 use Rattle.std.specs.Prelude.{◌<◌, length}
-use Rattle.session.specs.mt_model.History.{IsTableSchema}
-use Rattle.session.specs.shared_store.declared.work.Work.{Work}
+use Rattle.mt_program.specs.session.mt_model.History.{IsTableSchema}
+use Rattle.mt_program.specs.session.shared_store.declared.work.Work.{Work}
 
 -- the work has a source, and the schema of a table
 pub record MayBeMerged {F : Type 0} (work : Work F) : Type 0 where

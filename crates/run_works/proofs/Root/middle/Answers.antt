@@ -1,6 +1,6 @@
 use Rattle.std.proofs.Common.{arith, subst, sym}
 use Rattle.std.proofs.lemmas.Bool.Decides.{nat_tests}
-use Rattle.session.specs.mt_model.History.{IsTableSchema}
+use Rattle.mt_program.specs.session.mt_model.History.{IsTableSchema}
 use Rattle.run_works.proofs.Taken.{snap_schema, some_there}
 use Rattle.run_works.proofs.Root.middle.Goals as goal
 

@@ -1,6 +1,6 @@
 use Rattle.std.proofs.Common.{IfOk, subst}
-use Rattle.session.proofs.RootStoreTableIndexes.{has_indexes}
-use Rattle.session.proofs.RootStoreTableMarks.{has_marks}
+use Rattle.mt_program.proofs.RootStoreTableIndexes.{has_indexes}
+use Rattle.mt_program.proofs.RootStoreTableMarks.{has_marks}
 use Rattle.run_works.specs.Works.{MayBeMerged}
 use Rattle.run_works.proofs.Root.put.Goals as goal
 

@@ -1,4 +1,4 @@
-use Rattle.session.specs.shared_store.mutation_queue.declared.scope.Scope.TheVariants as scope
+use Rattle.mt_program.specs.session.shared_store.mutation_queue.declared.scope.Scope.TheVariants as scope
 use Rattle.run_works.proofs.Taken.{may_be_merged, ok_there}
 use Rattle.run_works.specs.Works.{MayBeMerged}
 use Rattle.run_works.proofs.Root.take.Goals as goal
